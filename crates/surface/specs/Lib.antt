@@ -1,0 +1,4 @@
+pub mod Shape
+pub mod Asked
+pub mod Turns
+pub mod Told
