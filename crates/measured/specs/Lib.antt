@@ -1,0 +1,5 @@
+pub mod Laid
+pub mod Spread
+pub mod Rows
+pub mod Mixes
+pub mod Judged
