@@ -19,6 +19,7 @@ use Rattle.measured.specs.Rows.{Filled, Ranged, place-of, ordinates-of}
 use Rattle.measured.specs.declared.row.Row.{Row}
 use Rattle.surface.specs.Verdict.{each-judged}
 use Rattle.surface.specs.declared.fault.SurfaceFault.the-variants.{Ordinate, Place, Short, Counts}
+use Rattle.surface.proofs.Counts.{slices-counted}
 use Rattle.surface.proofs.Verdicts.{passed, passed-on, passed-both, each-passed}
 
 ordinates-fine : (line f : ℕ) (vs : List ℤ) (x : Unit {0}) → Ok x ≡ ordinates-judged line f vs → (i : ℕ) → natAbs (getD vs i (pos 0)) ≤ 100000
@@ -73,18 +74,14 @@ risen : (p q : ℤ) → ltZ p (pos 0) ≡ false → ltZ q (pos 0) ≡ false → 
 risen p (pos q) low high e = on-deck (pos q) p low e
 risen p (negsuc q) low high e = absurd (grind arith)
 
-counted : (n : ℤ) → ltZ n (pos 60) ≡ false → ltZ (pos 300) n ≡ false → (pos (natAbs n) ≡ n) × (60 ≤ natAbs n) × (natAbs n ≤ 300)
-counted (pos n) wide narrow = (refl, ltb-false n 60 wide, ltb-false 300 n narrow)
-counted (negsuc n) wide narrow = absurd (grind arith)
-
 module _ (n : ℤ) (ps : List ℤ) (x : Unit {0}) (e : Ok x ≡ header-judged n ps) where
   counts : ((ltZ n (pos 60) || (ltZ (pos 300) n || (ltb (length ps) 1 || ltb 8 (length ps)))) ≡ false) × (Ok x ≡ each-judged (path-judged n ps) 0 (length ps))
   counts = passed _ x (Counts 1 0) _ e
 
-  slices-counted : (pos (natAbs n) ≡ n) × (60 ≤ natAbs n) × (natAbs n ≤ 300)
-  slices-counted =
+  slices : (pos (natAbs n) ≡ n) × (60 ≤ natAbs n) × (natAbs n ≤ 300)
+  slices =
       let b = or-parts (ltZ n (pos 60)) _ (counts .0) in
-      counted n (b .0) (or-parts (ltZ (pos 300) n) _ (b .1) .0)
+      slices-counted n (b .0) (or-parts (ltZ (pos 300) n) _ (b .1) .0)
 
   pub paths-counted : (1 ≤ length ps) × (length ps ≤ 8)
   paths-counted =
@@ -118,7 +115,7 @@ module _ (n : ℤ) (ps : List ℤ) (x : Unit {0}) (e : Ok x ≡ header-judged n 
 
   pub header-sound : Laid (natAbs n) (length ps) (laid-paths ps)
   header-sound =
-      let s = slices-counted in
+      let s = slices in
       let m = paths-counted in
       let long : length (laid-paths ps) ≡ length ps + (8 - length ps) = simp (length-append, length-map, length-replicate) in
       ((s .1, s .2, m .0, m .1, omega arith),
@@ -127,6 +124,3 @@ module _ (n : ℤ) (ps : List ℤ) (x : Unit {0}) (e : Ok x ≡ header-judged n 
 
   pub paths-natural : (i : ℕ) → i < length ps → pos 0 ≤ℤ getD ps i (pos 0)
   paths-natural i h = natural (getD ps i (pos 0)) (path-passed i h .0)
-
-  pub slices-natural : pos (natAbs n) ≡ n
-  slices-natural = slices-counted .0

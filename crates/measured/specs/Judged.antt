@@ -7,6 +7,7 @@ use lib.Dec.{ltb, leb, eqb}
 use lib.IntN.{ℤ, pos, natAbs}
 use lib.ListN.{length, take, replicate, getD}
 use lib.Signed.{ltZ, leZ}
+use Rattle.surface.specs.Stations.{place-fits}
 use Rattle.std.specs.declared.result.Result.the-variants.{Ok, Err}
 use Rattle.measured.specs.Rows.{place-of, ordinates-of}
 use Rattle.measured.specs.declared.row.Row.{Row}
@@ -56,10 +57,6 @@ row-judged m rs k = cond (rises-at rs k && ltb (place-of rs k) 200000) (ordinate
 abbrev pub seal-judged : ℕ → List Row → ℕ → Verdict
 seal-judged m rs t = cond (ltb (length rs) 64) (Err (Short 0)) (and-then (each-judged (row-judged m rs) 0 t) (cond (ltb t 2) (Err (Counts 0 0)) (Ok tt)))
 
--- station k, after one at place b, may stand at a place
-abbrev pub place-fits : ℕ → ℕ → ℤ → Bool
-place-fits k b z = leZ (pos 0) z && (ltZ z (pos 200000) && cond (eqb k 0) (eqb (natAbs z) 0) (ltb b (natAbs z)))
-
 -- the place of the station before station k; 0 for the first
 abbrev pub place-before : List Row → ℕ → ℕ
 place-before rs k = cond (eqb k 0) 0 (place-of rs (k - 1))
@@ -69,7 +66,7 @@ abbrev pub station-judged : ℕ → ℕ → List Row → ℤ → List ℤ → Ve
 station-judged m k rs z vs =
     cond (leb 64 k) (Err (Counts (k + 2) 0))
     (cond (ltb (length rs) 64 || ltb (length vs) m) (Err (Short (k + 2)))
-    (cond (place-fits k (place-before rs k) z) (ordinates-judged (k + 2) 2 (take m vs)) (Err (Place (k + 2) 1))))
+    (cond (place-fits k (pos (place-before rs k)) z) (ordinates-judged (k + 2) 2 (take m vs)) (Err (Place (k + 2) 1))))
 
 -- the row of a station: its place, and its ordinates at m paths in eight places, the unused ones 0
 abbrev pub row-of : ℕ → ℤ → List ℤ → Row

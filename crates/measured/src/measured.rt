@@ -4,7 +4,7 @@ ghost use mathlib.Core.Path.{_≡_};
 ghost use Prim.Native.Nat.{_+_, _≤_};
 ghost use lib.ListN.{set};
 ghost use Rattle.std.specs.Results.{isOk};
-ghost use Rattle.measured.specs.Judged.{Begun, header-judged, seal-judged, place-fits, row-of, station-judged};
+ghost use Rattle.measured.specs.Judged.{Begun, header-judged, seal-judged, row-of, station-judged};
 ghost use Rattle.measured.specs.Mixes.{rows-lawful};
 ghost use Rattle.measured.specs.Rows.{Filled, Ranged, rows-shape};
 ghost use Rattle.surface.specs.Verdict.{Granted, Settled};
@@ -14,6 +14,7 @@ use crate::layout::Layout;
 use crate::padding::padded;
 use crate::row::Row;
 use surface::fault::SurfaceFault;
+use surface::stations::place_fits;
 use surface::Surface;
 
 // A sealed surface, over rows held for reading.
@@ -46,17 +47,6 @@ pub struct Draft {
     ghost room: { filled ≤ 64 },
 }
 
-// Whether station k, after one at `before`, may stand at `place`.
-fn place_fits(k: usize, before: u32, place: i32) -> bool
-    ensures { λ r. ⌜ r ≡ place-fits k before place ⌝ }
-{
-    if place < 0 || place >= 200_000 {
-        return false;
-    }
-    let z = place as u32;
-    if k == 0 { z == 0 } else { before < z }
-}
-
 impl Draft {
     // A draft with no stations yet.
     pub fn new(slices: i32, paths: &[i32]) -> Result<Draft, SurfaceFault>
@@ -83,7 +73,7 @@ impl Draft {
             return Err(SurfaceFault::Short { record: line });
         }
         let before = if k == 0 { 0 } else { rows[k - 1].place };
-        if !place_fits(k, before, place) {
+        if !place_fits(k, i64::from(before), place) {
             return Err(SurfaceFault::Place { record: line, field: 1 });
         }
         check_ordinates(line, &ordinates[0..count])?;

@@ -4,7 +4,7 @@ use mathlib.Core.Bool.{Bool, true, false, cond}
 use Prim.Native.Nat.{ℕ, zero, suc, _+_, _-_, _<_}
 use native.Mathlib.Omega.{arith}
 use Rattle.std.specs.declared.result.Result.the-variants.{Ok, Err}
-use Rattle.surface.specs.Verdict.{Verdict, and-then, each-judged}
+use Rattle.surface.specs.Verdict.{Verdict, and-then, each-judged, Answered}
 use Rattle.surface.specs.declared.fault.SurfaceFault.{SurfaceFault}
 
 each-more : (f : ℕ → Verdict) (k t : ℕ) → k < t → each-judged f k (t - k) ≡ and-then (f k) (each-judged f (k + 1) (t - (k + 1)))
@@ -43,3 +43,8 @@ each-fine f k (suc t) x e (suc j) h = each-fine f (k + 1) t x (passed-both (f k)
 -- each item of those that pass together passes
 pub each-passed : (f : ℕ → Verdict) (t : ℕ) (x : Unit {0}) → Ok x ≡ each-judged f 0 t → (j : ℕ) → j < t → Ok x ≡ f j
 each-passed f t x e j h = each-fine f 0 t x e j h ∙ ap f (omega arith)
+
+-- what a verdict that passes is answered by
+pub answered : (v : Verdict) (x : Unit {0}) (made kept : Type 0) → Ok x ≡ v → made → Answered v (Ok tt) made kept
+answered (Ok y) x made kept e m = (refl, m)
+answered (Err f) x made kept e m = clash x f e

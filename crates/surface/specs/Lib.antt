@@ -1,4 +1,5 @@
 pub mod Shape
+pub mod Stations
 pub mod Asked
 pub mod Turns
 pub mod Told

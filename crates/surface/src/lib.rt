@@ -6,6 +6,7 @@ ghost use Rattle.surface.specs.Asked.{Asked};
 use crate::fault::SurfaceFault;
 
 pub mod fault;
+pub mod stations;
 pub mod turned;
 
 // An influence surface, by its meaning. Slices, stations, places and ordinates are all that is asked of one.

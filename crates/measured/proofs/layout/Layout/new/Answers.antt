@@ -1,7 +1,7 @@
 use lib.IntN.{ℤ}
 use mir.Val.{toZ, ofZ}
 use mir.Syntax.{w32}
-use Rattle.measured.proofs.Sound.{header-sound, paths-natural, paths-counted, slices-natural}
+use Rattle.measured.proofs.Sound.{header-sound, paths-natural, paths-counted}
 use Rattle.measured.proofs.layout.Layout.new.Needs as need
 
 pub laid-all-requires : need.laid-all-requires
