@@ -1,3 +1,4 @@
 pub mod Counts
-pub mod Verdicts
 pub mod Quotients
+mod Undone
+pub mod Verdicts

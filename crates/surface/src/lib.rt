@@ -5,9 +5,12 @@ ghost use Rattle.surface.specs.Shape.{Shape, Lawful};
 ghost use Rattle.surface.specs.Asked.{Asked};
 use crate::fault::SurfaceFault;
 
+pub mod ends;
 pub mod fault;
+pub mod laws;
+pub mod opposite;
+pub mod sides;
 pub mod stations;
-pub mod turned;
 
 // An influence surface, by its meaning. Slices, stations, places and ordinates are all that is asked of one.
 pub trait Surface {

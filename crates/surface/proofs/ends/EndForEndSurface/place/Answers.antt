@@ -1,7 +1,7 @@
 use Prim.Native.Nat.{_-_}
 use native.Mathlib.Omega.{arith}
 use Rattle.surface.specs.Turns.{place-rises}
-use Rattle.surface.proofs.turned.EndForEndSurface.place.Needs as need
+use Rattle.surface.proofs.ends.EndForEndSurface.place.Needs as need
 
 pub sub-result : need.sub-result
 sub-result g c =

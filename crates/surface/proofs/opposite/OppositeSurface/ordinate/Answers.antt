@@ -1,6 +1,6 @@
 use native.Mathlib.Omega.{arith}
 use borrow.Author.Differences.{ints}
-use Rattle.surface.proofs.turned.OppositeSurface.ordinate.Needs as need
+use Rattle.surface.proofs.opposite.OppositeSurface.ordinate.Needs as need
 
 pub sub-result : need.sub-result
 sub-result g c =

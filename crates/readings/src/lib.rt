@@ -1,0 +1,3 @@
+// The readings of a lorry run: a table becomes a draft and its rows, record by record.
+mod numbers;
+pub mod run;
