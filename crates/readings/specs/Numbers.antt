@@ -1,14 +1,13 @@
 -- The numbers that the fields of a record write.
-use Prim.Native.Nat.{ℕ, _<_}
+use Prim.Native.Nat.{ℕ, _+_, _<_}
 use mathlib.Core.List.{List, [], _∷_}
 use mathlib.Core.Path.{_≡_}
 use lib.IntN.{ℤ, pos}
 use lib.ListN.{length, take, getD}
-use Rattle.std.specs.declared.result.Result.{Result}
-use Rattle.std.specs.declared.result.Result.the-variants.{Ok, Err}
 use Rattle.table.specs.Cells.{Cell, plain, content}
 use Rattle.table.specs.Numbers.{Writes}
 use Rattle.table.specs.declared.fault.TextFault.{TextFault}
+use Rattle.table.specs.declared.fault.TextFault.the-variants.{Malformed}
 
 -- each field writes the number in its place
 abbrev pub Written : List Cell → List ℤ → Type 0
@@ -38,4 +37,4 @@ pub record Taken (cs : List Cell) (into : List ℤ) : Type 0 where
 pub record Missed (cs : List Cell) (r f : ℕ) (e : TextFault) : Type 0 where
   pub index : ℕ
   pub unwritten : Unwritten cs index
-  pub place : e ≡ TextFault.the-variants.Malformed r (f + index)
+  pub place : e ≡ Malformed r (f + index)

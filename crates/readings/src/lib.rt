@@ -1,3 +1,4 @@
 // The readings of a lorry run: a table becomes a draft and its rows, record by record.
-mod numbers;
+pub mod numbers;
+pub mod rows;
 pub mod run;

@@ -9,7 +9,6 @@ ghost use Rattle.table.specs.Lines.{Line};
 ghost use Rattle.readings.specs.Numbers.{Taken, Missed};
 use table::fault::TextFault;
 use table::field::read_field;
-use table::number::number;
 
 // The most numbers that a row can hold: a place and eight ordinates.
 pub const MOST: usize = 9;
@@ -22,7 +21,7 @@ pub fn read_numbers(input: &[u8], at: usize, record: u32, first: u32, count: usi
     let mut p = at;
     for i in 0..count {
         let read = read_field(input, p, record, first + i as u32)?;
-        let value = number(read.field)?;
+        let value = read.field.number()?;
         if i < MOST {
             into[i] = value;
         }

@@ -1,1 +1,6 @@
+pub mod Cells
+pub mod Lines
+pub mod Numbers
+pub mod Tables
 pub mod Told
+pub mod Unique
