@@ -26,3 +26,22 @@ fn take_station(draft: &mut Draft, rows: &mut [Row], numbers: &[i32; MOST], fiel
 {
     draft.station(rows, numbers[0], &numbers[1..fields])
 }
+
+// Takes the row that begins at byte `at` as the draft's next station, and says where the row after it begins.
+pub fn read_row(input: &[u8], at: usize, record: u32, fields: usize, draft: &mut Draft, rows: &mut [Row]) -> Result<usize, SurfaceFault>
+    requires text { ⌜ at < length (now input) ⌝ ∗ ⌜ length (now input) ≤ 65536 ⌝ }
+    requires place { ⌜ «record» ≡ now draft .filled + 2 ⌝ }
+    requires fields { ⌜ fields ≡ now draft .layout .count + 1 ⌝ ∗ ⌜ fields ≤ 9 ⌝ }
+    ensures row { λ r. ⌜ Cases r (λ next. Row-taken (now (draft .entry) .layout .count) (now (draft .entry) .filled) (now (rows .entry)) (now (input .entry)) at next (now (rows .exit))) (λ f. Row-stops (now (draft .entry) .layout .count) (now (draft .entry) .filled) (now (rows .entry)) (drop at (now (input .entry))) f) ⌝ }
+    ensures layout { λ r. ⌜ now (draft .exit) .layout ≡ now (draft .entry) .layout ⌝ }
+    ensures filled { λ r. ⌜ now (draft .exit) .filled ≡ cond (isOk r) (now (draft .entry) .filled + 1) (now (draft .entry) .filled) ⌝ }
+{
+    let line = read_line(input, at, record)?;
+    if line.fields != fields {
+        return Err(SurfaceFault::Text(TextFault::Malformed { record, field: 0 }));
+    }
+    let mut numbers = [0; MOST];
+    read_numbers(input, at, record, 1, fields, &mut numbers)?;
+    take_station(draft, rows, &numbers, fields)?;
+    Ok(line.next)
+}
