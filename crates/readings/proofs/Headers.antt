@@ -2,6 +2,7 @@
 use Prim.Native.Nat.{ℕ, zero, suc, _+_, _-_, _^_, _≤_, _<_}
 use mathlib.Core.Bool.{Bool, true, false, cond, _||_}
 use mathlib.Core.List.{List, [], _∷_, _++_}
+use mathlib.Core.Logic.{⊎-elim}
 use mathlib.Core.Path.{_≡_, refl, sym, ap, subst, _∙_}
 use native.Mathlib.Omega.{arith}
 use borrow.Author.Differences.{ints}
@@ -13,7 +14,7 @@ use Rattle.std.specs.Results.{Cases}
 use Rattle.std.specs.declared.result.Result.{Result}
 use Rattle.std.specs.declared.result.Result.the-variants.{Ok, Err}
 use Rattle.std.proofs.shelf.Lists.{ext-getD, getD-take, length-take-le, length-append}
-use Rattle.std.proofs.shelf.Tests.{cond-true, lt-ltb}
+use Rattle.std.proofs.shelf.Tests.{cases-lt, cond-true, lt-ltb}
 use Rattle.measured.specs.Judged.{Begun, header-judged, path-judged}
 use Rattle.measured.specs.declared.measured.Draft.{Draft}
 use Rattle.surface.specs.Verdict.{Granted, each-judged}
@@ -155,3 +156,7 @@ module _ {cs : List Cell} {c : Cell} {input ys : List ℕ} {next : ℕ} (s : Spl
         begun = subst (λ (m : List ℤ). Begun (slices-of ps) m (d .layout .slices) (d .layout .count) (d .layout .paths) (d .filled)) eq b;
       }
   opened (Err f) n qs ps g h w en eq = refused-paths f ps h w (sym (ap (λ (m : ℤ). header-judged m qs) en ∙ ap (header-judged (slices-of ps)) eq) ∙ g)
+
+-- a lawful header has at most eight paths
+pub header-few : (ps : List ℤ) → header-judged (slices-of ps) ps ≡ Ok tt → length ps ≤ 8
+header-few ps e = ⊎-elim (λ more. let m = header-many (slices-of ps) ps more in let z : _≡_ {A = ℕ} 0 1 = cc in absurd (omega arith)) (λ h. h) (cases-lt 8 (length ps))

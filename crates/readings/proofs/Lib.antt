@@ -1,3 +1,4 @@
 pub mod Headers
 pub mod Progress
 pub mod Stations
+pub mod Underway

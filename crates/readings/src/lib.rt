@@ -1,4 +1,5 @@
 // The readings of a lorry run: a table becomes a draft and its rows, record by record.
-pub mod numbers;
-pub mod rows;
+mod header;
+mod numbers;
+mod rows;
 pub mod run;

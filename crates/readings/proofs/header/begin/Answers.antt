@@ -10,7 +10,7 @@ use mir.Syntax.{w32}
 use Rattle.measured.specs.Judged.{Begun, header-judged}
 use Rattle.surface.specs.Verdict.{Granted}
 use Rattle.readings.specs.Runs.{ends}
-use Rattle.readings.proofs.run.begin.Needs as need
+use Rattle.readings.proofs.header.begin.Needs as need
 
 pub returns : need.returns
 returns c =

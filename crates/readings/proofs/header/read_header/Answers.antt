@@ -16,7 +16,7 @@ use Rattle.table.proofs.Chains.{line-stands}
 use Rattle.readings.specs.Numbers.{Missed}
 use Rattle.readings.specs.Runs.{ends, slices-of}
 use Rattle.readings.proofs.Headers.{Split, split, line-few, refused-word, refused-number, refused-paths, opened, of-others, others-count, header-many, taken-length, taken-small, taken-slices, taken-all}
-use Rattle.readings.proofs.run.read_header.Needs as need
+use Rattle.readings.proofs.header.read_header.Needs as need
 
 pub returns-in-Break-word : need.returns-in-Break-word
 returns-in-Break-word c = λ cs ys l e. absurd (line-stands cs l (c .in-Break-word .ensures tt .1))
