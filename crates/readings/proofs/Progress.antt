@@ -13,7 +13,7 @@ use Rattle.table.specs.Lines.{Line, Field-read}
 use Rattle.table.specs.Numbers.{Writes}
 use Rattle.table.specs.declared.field.FieldEnd.{FieldEnd}
 use Rattle.table.proofs.Chains.{line-stands}
-use Rattle.table.proofs.Passes.{pass-last, pass-more}
+use Rattle.table.proofs.SecondPass.{pass-same, pass-more}
 use Rattle.readings.specs.Numbers.{Written, Unwritten, Held, Taken}
 
 -- i fields are read, and the record of those that are left begins at byte p
@@ -44,8 +44,8 @@ progress-all cs ys input i p into h g = record { numbers = g .numbers; written =
 -- a field that is read where a record begins is its first, and the others follow it
 pub first-read : (t : Cell) (us : List Cell) {xs ys : List ℕ} {at rec fld : ℕ} {e : FieldEnd} → Line (t ∷ us) (drop at xs) ys → Field-read xs at rec fld e
     → (cell-of (e .field .text) ≡ t) × (0 < length us → (e .next < length xs) × Line us (drop (e .next + 1) xs) ys)
-first-read t [] l k = (pass-last t l k .0, λ h. absurd (omega arith))
-first-read t (u ∷ us) l k = let p = pass-more t u us l k in (p .same, λ h. (p .inside, p .others))
+first-read t [] l k = (pass-same t [] l k, λ h. absurd (omega arith))
+first-read t (u ∷ us) l k = let p = pass-more t u us l k in (pass-same t (u ∷ us) l k, λ h. (p .inside, p .others))
 
 module _ (cs : List Cell) (ys input : List ℕ) (i p : ℕ) (into : List ℤ) (g : Progress cs ys input i p into) (h : i < length cs) where
   here : Line (getD cs i (plain []) ∷ drop (i + 1) cs) (drop p input) ys

@@ -18,7 +18,7 @@ use Rattle.table.specs.Tables.{Passes, at-end, at-line}
 use Rattle.table.specs.declared.fault.TextFault.{TextFault}
 use Rattle.table.specs.declared.fault.TextFault.the-variants.{Malformed, TooLong}
 use Rattle.table.specs.declared.line.LineEnd.{LineEnd}
-use Rattle.table.proofs.Passes.{read-advances}
+use Rattle.table.proofs.SecondPass.{read-advances}
 use Rattle.readings.specs.Numbers.{Written, Taken, Missed}
 use Rattle.readings.specs.Runs.{Row-stops, Row-taken}
 use Rattle.readings.specs.Runs as runs

@@ -9,6 +9,7 @@ pub mod ends;
 pub mod fault;
 pub mod laws;
 pub mod opposite;
+pub mod questions;
 pub mod sides;
 pub mod stations;
 

@@ -1,16 +1,13 @@
 -- The fields of a record one by one: how a record is built up, taken apart again, and determined by its bytes.
 use mathlib.Core.Path.{_≡_, refl, sym, ap, subst, _∙_}
 use mathlib.Core.List.{List, [], _∷_, _++_, append-assoc}
-use mathlib.Core.Logic.{⊎-elim}
-use Prim.Native.Nat.{ℕ, _+_, _<_, _≤_}
+use Prim.Native.Nat.{ℕ, suc}
 use native.Mathlib.Omega.{arith}
-use lib.ListN.{length, drop}
-use Rattle.std.specs.shelf.Lists.{All}
+use lib.ListN.{length}
 use Rattle.std.proofs.shelf.Elements.{all-push}
 use Rattle.std.proofs.shelf.Lists.{length-push}
-use Rattle.table.specs.declared.field.FieldEnd.{FieldEnd}
-use Rattle.table.specs.Cells.{Cell, cell-of, written, Sound, Closes, at-end, at-line, Ends, at-comma, at-close, Stands, Malformed-at}
-use Rattle.table.specs.Lines.{joined, Line, led, Begins}
+use Rattle.table.specs.Cells.{Cell, written, Sound, Closes, at-end, at-line, at-comma, at-close, Stands, Malformed-at}
+use Rattle.table.specs.Lines.{joined, Line, led, Begins, Broken}
 use Rattle.table.proofs.Cuts.{stands-unique}
 
 -- a record does not end at a comma
@@ -71,6 +68,45 @@ pub line-stands : (ts : List Cell) {xs ys : List ℕ} → Line ts xs ys → Malf
 line-stands [] l none = line-some l
 line-stands (t ∷ []) {ys = ys} l none = none t ys (line-one t l)
 line-stands (t ∷ u ∷ us) l none = let f = line-more t u us l in none t (44 ∷ f .after) (f .stands)
+
+-- fields with a comma after each: the first stands before its comma, and the others follow it
+begins-first : (t : Cell) (ts : List Cell) {xs ys : List ℕ} → Begins (t ∷ ts) xs ys → Stands t xs (44 ∷ (led ts ++ ys))
+begins-first t ts {ys = ys} b = record {
+  splits = b .splits ∙ append-assoc (written t) (44 ∷ led ts) ys;
+  sound = b .sound .0;
+  ends = at-comma (led ts ++ ys) refl;
+}
+
+begins-others : (t : Cell) (ts : List Cell) {xs ys : List ℕ} → Begins (t ∷ ts) xs ys → Begins ts (led ts ++ ys) ys
+begins-others t ts b = record { splits = refl; sound = b .sound .1 }
+
+-- a field that does not stand after sound fields and their commas is in no record
+apart : (bs ts : List Cell) {xs rest ys : List ℕ} → Begins bs xs rest → Malformed-at rest → Line ts xs ys → ⊥
+apart [] ts {ys = ys} b none l = line-stands ts (subst (λ xs. Line ts xs ys) (b .splits) l) none
+apart (t ∷ bs) [] b none l = line-some l
+apart (t ∷ bs) (u ∷ []) {rest = rest} {ys = ys} b none l =
+    not-comma ys (led bs ++ rest) (l .closes) (stands-unique u t (line-one u l) (begins-first t bs b) .1)
+apart (t ∷ bs) (u ∷ v ∷ vs) {rest = rest} {ys = ys} b none l =
+    let f = line-more u v vs l in
+    let commas : 44 ∷ f .after ≡ 44 ∷ (led bs ++ rest) = stands-unique u t (f .stands) (begins-first t bs b) .1 in
+    let after : f .after ≡ led bs ++ rest = cc in
+    apart bs (v ∷ vs) (begins-others t bs b) none (subst (λ xs. Line (v ∷ vs) xs ys) after (f .line))
+
+pub line-not-broken : (ts : List Cell) {xs ys : List ℕ} {f : ℕ} → Line ts xs ys → Broken xs f → ⊥
+line-not-broken ts l b = apart (b .before) ts (b .begins) (b .malformed) l
+
+-- the first field that does not stand is the same, however the fields before it are read
+level : (bs cs : List Cell) {xs ys zs : List ℕ} → Begins bs xs ys → Malformed-at ys → Begins cs xs zs → Malformed-at zs → length bs ≡ length cs
+level [] [] b none d nor = refl
+level [] (u ∷ cs) b none d nor = absurd (subst Malformed-at (sym (b .splits)) none u _ (begins-first u cs d))
+level (t ∷ bs) [] b none d nor = absurd (subst Malformed-at (sym (d .splits)) nor t _ (begins-first t bs b))
+level (t ∷ bs) (u ∷ cs) {ys = ys} {zs = zs} b none d nor =
+    let commas : 44 ∷ (led cs ++ zs) ≡ 44 ∷ (led bs ++ ys) = stands-unique u t (begins-first u cs d) (begins-first t bs b) .1 in
+    let after : led cs ++ zs ≡ led bs ++ ys = cc in
+    ap suc (level bs cs (begins-others t bs b) none (subst (λ xs. Begins cs xs zs) after (begins-others u cs d)) nor)
+
+pub broken-unique : {xs : List ℕ} {f g : ℕ} → Broken xs f → Broken xs g → f ≡ g
+broken-unique b d = omega (arith, b .place, d .place, level (b .before) (d .before) (b .begins) (b .malformed) (d .begins) (d .malformed))
 
 -- fields with a comma after each, and one more
 led-push : (ts : List Cell) (t : Cell) (zs : List ℕ) → led (ts ++ (t ∷ [])) ++ zs ≡ led ts ++ (written t ++ (44 ∷ zs))

@@ -4,7 +4,7 @@ use mathlib.Core.List.{List, [], _∷_, _++_, append-assoc}
 use Prim.Native.Nat.{ℕ}
 use native.Mathlib.Omega.{arith}
 use Rattle.std.specs.shelf.Lists.{All}
-use Rattle.table.specs.Cells.{Cell, plain, quoted, written, Bare, Stops, Unquoted, Paired, empty, pair, other, Closes, at-end, at-line, Ends, at-comma, at-close, Stands}
+use Rattle.table.specs.Cells.{Cell, plain, quoted, written, Bare, Stops, Unquoted, Paired, empty, pair, other, at-end, at-line, Ends, at-comma, at-close, Stands}
 
 pub ends-stop : (ys : List ℕ) → Ends ys → Stops ys
 ends-stop ys (at-comma zs e) b ws f bare = bare .0 (cc)

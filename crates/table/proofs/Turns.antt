@@ -1,14 +1,14 @@
 -- What one turn of the loops over a field's bytes keeps, and what its first bytes tell.
-use mathlib.Core.Path.{_≡_, refl, sym, ap, subst, _∙_}
+use mathlib.Core.Path.{_≡_, sym, ap, subst, _∙_}
 use mathlib.Core.List.{List, [], _∷_, _++_, append-assoc}
-use mathlib.Core.Logic.{_⊎_, inl, inr, ⊎-elim}
-use Prim.Native.Nat.{ℕ, _+_, _-_, _<_, _≤_}
+use mathlib.Core.Logic.{_⊎_, ⊎-elim}
+use Prim.Native.Nat.{ℕ, _+_, _-_, _<_}
 use native.Mathlib.Omega.{arith}
 use lib.ListN.{length, getD, take, drop}
 use Rattle.std.proofs.shelf.Lists.{take-more, drop-more, drop-all, nil-from-length}
 use Rattle.std.proofs.shelf.Parts.{first-rest}
 use Rattle.std.proofs.shelf.Tests.{cases-lt}
-use Rattle.table.specs.Cells.{Bare, Stops, Unquoted, Paired, empty, pair, other, Closed-at, Ends, at-comma, at-close, at-end, at-line}
+use Rattle.table.specs.Cells.{Bare, Stops, Paired, empty, pair, other, Closed-at, Ends, at-comma, at-close, at-end, at-line}
 
 pub stops-here : (xs : List ℕ) (i : ℕ) → i < length xs → (Bare (getD xs i 0) → ⊥) → Stops (drop i xs)
 stops-here xs i l not-bare b ys e bare =

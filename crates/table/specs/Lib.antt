@@ -1,3 +1,4 @@
+-- The format of a table, and what the contracts say of reading it.
 pub mod Cells
 pub mod Lines
 pub mod Numbers

@@ -10,6 +10,10 @@ use Rattle.table.specs.declared.field.FieldEnd.{FieldEnd}
 use Rattle.table.specs.declared.line.LineEnd.{LineEnd}
 use Rattle.table.specs.Cells.{Cell, cell-of, written, Sound, Closes, Stands, Malformed-at}
 
+-- the most bytes that a table may have
+abbrev pub most-bytes : ℕ
+most-bytes = 65536
+
 -- the bytes of a record: its fields with a comma between each two
 abbrev pub joined : List Cell → List ℕ
 joined [] = []
@@ -63,9 +67,9 @@ pub record Line-read (input : List ℕ) (at : ℕ) (e : LineEnd) : Type 0 where
   pub within : at ≤ length input → e .end ≤ length input
   pub leaves : Leaves input (e .end) (e .next)
   pub next-within : at ≤ length input → e .next ≤ length input
-  pub short : length input ≤ 65536
+  pub short : length input ≤ most-bytes
 
 -- a record is refused where a field of it does not stand, at the first such field, and where the table is too long
 abbrev pub Line-refused : List ℕ → ℕ → ℕ → TextFault → Type 0
-Line-refused input at rec (Malformed r f) = (r ≡ rec) × Broken (drop at input) f × (length input ≤ 65536)
-Line-refused input at rec TooLong = 65536 < length input
+Line-refused input at rec (Malformed r f) = (r ≡ rec) × Broken (drop at input) f × (length input ≤ most-bytes)
+Line-refused input at rec TooLong = most-bytes < length input

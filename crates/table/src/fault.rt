@@ -34,8 +34,18 @@ impl TextFault {
         ensures { λ r. ⌜ r ≡ text-told self ⌝ }
     {
         match self {
-            TextFault::Malformed { record, field } => Report { number: 1, layer: Layer::Text, record, field },
-            TextFault::TooLong => Report { number: 1, layer: Layer::Text, record: 0, field: 0 },
+            TextFault::Malformed { record, field } => Report {
+                number: 1,
+                layer: Layer::Text,
+                record,
+                field,
+            },
+            TextFault::TooLong => Report {
+                number: 1,
+                layer: Layer::Text,
+                record: 0,
+                field: 0,
+            },
         }
     }
 }

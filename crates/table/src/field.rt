@@ -36,16 +36,28 @@ pub struct FieldEnd<'a> {
 }
 
 // The field that stands at byte `at` of the input; a fault where none does.
-pub fn read_field<'a>(input: &'a [u8], at: usize, record: u32, field: u32) -> Result<FieldEnd<'a>, TextFault>
+pub fn read_field<'a>(
+    input: &'a [u8],
+    at: usize,
+    record: u32,
+    field: u32,
+) -> Result<FieldEnd<'a>, TextFault>
     ensures { λ r. ⌜ Cases r (λ e. Field-read (now (input .entry)) at «record» field e) (λ e. (e ≡ TextFault.Malformed «record» field) × Malformed-at (drop at (now (input .entry)))) ⌝ }
 {
     match front_text(rest_from(input, at)) {
-        Some(text) => Ok(FieldEnd { field: Field { record, field, text }, next: at + written_length(text) }),
+        Some(text) => Ok(FieldEnd {
+            field: Field {
+                record,
+                field,
+                text,
+            },
+            next: at + written_length(text),
+        }),
         None => Err(TextFault::Malformed { record, field }),
     }
 }
 
-impl<'a> Field<'a> {
+impl Field<'_> {
     // Whether the text, without the quotes around it, is exactly this word.
     pub fn is_word(self, word: &[u8]) -> bool
         ensures { λ r. ⌜ Decides r (content (cell-of (self .entry .text)) ≡ now (word .entry)) ⌝ }
@@ -87,7 +99,11 @@ fn rest_from(input: &[u8], at: usize) -> &[u8]
 fn front_text<'a>(rest: &'a [u8]) -> Option<Text<'a>>
     ensures { λ r. ⌜ BySome r (Malformed-at (now (rest .entry))) (λ t. In-front (cell-of t) (now (rest .entry))) ⌝ }
 {
-    if rest.len() > 0 && rest[0] == QUOTE { quoted_text(&rest[1..]) } else { plain_text(rest) }
+    if rest.len() > 0 && rest[0] == QUOTE {
+        quoted_text(&rest[1..])
+    } else {
+        plain_text(rest)
+    }
 }
 
 // The bare bytes at the front, if a field ends after them.
@@ -95,7 +111,11 @@ fn plain_text<'a>(rest: &'a [u8]) -> Option<Text<'a>>
     ensures { λ r. ⌜ BySome r ((bs ys : List ℕ) → Stands (plain bs) (now (rest .entry)) ys → ⊥) (λ t. In-front (cell-of t) (now (rest .entry))) ⌝ }
 {
     let end = bare_length(rest);
-    if field_ends(&rest[end..]) { Some(Text::Plain(&rest[0..end])) } else { None }
+    if field_ends(&rest[end..]) {
+        Some(Text::Plain(&rest[0..end]))
+    } else {
+        None
+    }
 }
 
 // After an opening quote: the bytes before the closing quote, if there is one and a field ends after it.
@@ -103,7 +123,11 @@ fn quoted_text<'a>(inner: &'a [u8]) -> Option<Text<'a>>
     ensures { λ r. ⌜ BySome r ((bs ys : List ℕ) → Stands (quoted bs) (34 ∷ now (inner .entry)) ys → ⊥) (λ t. In-front (cell-of t) (34 ∷ now (inner .entry))) ⌝ }
 {
     match closing_quote(inner) {
-        Some(close) => if field_ends(&inner[close + 1..]) { Some(Text::Quoted(&inner[0..close])) } else { None },
+        Some(close) => if field_ends(&inner[close + 1..]) {
+            Some(Text::Quoted(&inner[0..close]))
+        } else {
+            None
+        },
         None => None,
     }
 }

@@ -3,4 +3,6 @@ pub mod fault;
 pub mod field;
 pub mod line;
 pub mod number;
+#[cfg(test)]
+mod tests;
 pub mod unique;

@@ -3,7 +3,7 @@ ghost use mathlib.Core.Path.{_≡_};
 ghost use Prim.Native.Nat.{_<_, _≤_};
 ghost use lib.ListN.{length};
 ghost use Rattle.std.specs.Results.{Cases};
-ghost use Rattle.table.specs.Lines.{Line-read, Line-refused};
+ghost use Rattle.table.specs.Lines.{most-bytes, Line-read, Line-refused};
 use crate::fault::TextFault;
 use crate::field::read_field;
 
@@ -22,9 +22,13 @@ pub struct LineEnd {
 
 // Refuses input that is longer than a table may be.
 pub fn check_length(input: &[u8]) -> Result<(), TextFault>
-    ensures { λ r. ⌜ Cases r (λ _. length (now (input .entry)) ≤ 65536) (λ e. (e ≡ TextFault.TooLong) × (65536 < length (now (input .entry)))) ⌝ }
+    ensures { λ r. ⌜ Cases r (λ _. length (now (input .entry)) ≤ most-bytes) (λ e. (e ≡ TextFault.TooLong) × (most-bytes < length (now (input .entry)))) ⌝ }
 {
-    if input.len() > LONGEST { Err(TextFault::TooLong) } else { Ok(()) }
+    if input.len() > LONGEST {
+        Err(TextFault::TooLong)
+    } else {
+        Ok(())
+    }
 }
 
 // Reads the record that begins at byte `at`, or says which of its fields is the first that does not stand.
@@ -39,5 +43,9 @@ pub fn read_line(input: &[u8], at: usize, record: u32) -> Result<LineEnd, TextFa
         end = read_field(input, end + 1, record, fields)?.next;
     }
     let next = if end < input.len() { end + 2 } else { end };
-    Ok(LineEnd { fields: fields as usize, end, next })
+    Ok(LineEnd {
+        fields: fields as usize,
+        end,
+        next,
+    })
 }

@@ -13,14 +13,17 @@ use crate::field::content_of;
 // The most digits of a number.
 const MOST_DIGITS: usize = 7;
 
-impl<'a> Field<'a> {
+impl Field<'_> {
     // The number that the field writes: one to seven digits, perhaps after a minus.
     pub fn number(self) -> Result<i32, TextFault>
         ensures { λ r. ⌜ Cases r (λ v. Writes (content (cell-of (self .entry .text))) v) (λ e. (e ≡ TextFault.Malformed (self .entry .«record») (self .entry .field)) × ((v : ℤ) → Writes (content (cell-of (self .entry .text))) v → ⊥)) ⌝ }
     {
         match signed(content_of(self.text)) {
             Some(value) => Ok(value),
-            None => Err(TextFault::Malformed { record: self.record, field: self.field }),
+            None => Err(TextFault::Malformed {
+                record: self.record,
+                field: self.field,
+            }),
         }
     }
 }

@@ -1,4 +1,5 @@
-use mathlib.Core.Path.{_≡_, refl, subst}
+-- A turn passes a bare byte, and the first that is not bare stops the count.
+use mathlib.Core.Path.{_≡_, subst}
 use native.Mathlib.Omega.{arith}
 use Prim.Native.Nat.{ℕ}
 use lib.ListN.{length, take}

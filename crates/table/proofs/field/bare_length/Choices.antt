@@ -1,3 +1,4 @@
+-- The bytes passed are bare.
 use lib.ListN.{take}
 use Rattle.std.specs.shelf.Lists.{All}
 use Rattle.table.specs.Cells.{Bare}

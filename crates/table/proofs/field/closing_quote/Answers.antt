@@ -1,3 +1,4 @@
+-- A turn passes one other byte or a pair of quotes, and stops at a quote that stands alone.
 use native.Mathlib.Omega.{arith}
 use mathlib.Core.Path.{subst}
 use Rattle.std.proofs.shelf.Lists.{take-all}
@@ -21,9 +22,9 @@ pub returns-else-i-inner : need.returns-else-i-inner
 returns-else-i-inner c =
     closed-here _ _ (c .loop-i-test .taken) (c .loop-i .inv .0) (c .if-inner-i-ne-QUOTE .left)
     (λ more quote. elim (c .else-i-inner .came) [
-        else-i-inner·by·then-i-inner·else-inner-i-eq-QUOTE w ↦ w .if-inner-i-eq-QUOTE .left quote
+      | else-i-inner·by·then-i-inner·else-inner-i-eq-QUOTE w ↦ w .if-inner-i-eq-QUOTE .left quote
       | else-i-inner·by·else-i-inner w ↦ omega (arith, w .if-i-inner .left)
-      ])
+    ])
 
 pub returns : need.returns
 returns c = subst Paired (take-all (c .loop-i .i) (c .args .inner .now) (c .loop-i-test .left)) (c .loop-i .inv .0)

@@ -1,3 +1,4 @@
+-- The bytes passed have quotes only in pairs.
 use Prim.Native.Nat.{_-_, _≤_}
 use lib.ListN.{length, take}
 use Rattle.table.specs.Cells.{Paired}

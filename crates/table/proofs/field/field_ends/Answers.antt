@@ -1,4 +1,5 @@
-use mathlib.Core.Path.{_≡_, refl}
+-- Each pattern that is matched is one of the ways in which a field may end.
+use mathlib.Core.Path.{refl}
 use borrow.Author.Needs.{needs}
 use Rattle.table.proofs.Turns.{ends-empty, ends-comma, ends-line}
 use Rattle.table.proofs.field.field_ends.Needs as need

@@ -1,10 +1,11 @@
-use mathlib.Core.Path.{_≡_, sym, subst}
-use mathlib.Core.List.{List, _∷_}
+-- The first byte tells whether the field is quoted.
+use mathlib.Core.Path.{sym, subst}
+use mathlib.Core.List.{List}
 use Prim.Native.Nat.{ℕ, _-_}
 use native.Mathlib.Omega.{arith}
 use lib.ListN.{length, take, drop}
 use Rattle.std.specs.Options.{Cases}
-use Rattle.table.specs.Cells.{plain, quoted, cell-of, Stands, In-front, Malformed-at}
+use Rattle.table.specs.Cells.{quoted, cell-of, In-front, Malformed-at}
 use Rattle.table.proofs.Turns.{begins-with}
 use Rattle.table.proofs.Fronts.{either-way, only-quoted, only-plain}
 use Rattle.table.proofs.field.front_text.Needs as need
@@ -23,7 +24,7 @@ returns-else-rest-gt0 c =
     let xs = c .args .rest .now in
     either-way (c .plain-text .result) (c .plain-text .ensures)
     (only-plain xs (λ some quote. elim (c .else-rest-gt0 .came) [
-        else-rest-gt0·by·then-rest-gt0·else-rest-eq-QUOTE w ↦ w .if-rest-eq-QUOTE .left quote
+      | else-rest-gt0·by·then-rest-gt0·else-rest-eq-QUOTE w ↦ w .if-rest-eq-QUOTE .left quote
       | else-rest-gt0·by·else-rest-gt0 w ↦ omega (arith, w .if-rest-gt0 .left)
-      ]))
+    ]))
     (λ t h. h)

@@ -1,7 +1,8 @@
-use mathlib.Core.Path.{_≡_, refl, sym, subst}
+-- The bare bytes are the field, if a field may end after them, and no other bare bytes are.
+use mathlib.Core.Path.{_≡_, sym, subst}
 use Prim.Native.Nat.{_-_}
 use native.Mathlib.Omega.{arith}
-use lib.ListN.{length, take}
+use lib.ListN.{take}
 use Rattle.std.proofs.shelf.Lists.{take-rest}
 use Rattle.std.proofs.shelf.Tests.{both-ways}
 use Rattle.table.specs.Cells.{plain, Ends, In-front}

@@ -1,8 +1,9 @@
-use mathlib.Core.Path.{_≡_, refl, sym, subst}
+-- The bytes before the closing quote are the field, if a field may end after it, and no others are.
+use mathlib.Core.Path.{_≡_, sym, subst}
 use mathlib.Core.List.{_∷_}
 use Prim.Native.Nat.{_+_, _-_}
 use native.Mathlib.Omega.{arith}
-use lib.ListN.{length, take}
+use lib.ListN.{take}
 use Rattle.std.proofs.shelf.Lists.{take-rest}
 use Rattle.std.proofs.shelf.Tests.{both-ways}
 use Rattle.table.specs.Cells.{quoted, Ends, In-front}

@@ -1,4 +1,5 @@
-use mathlib.Core.Path.{_≡_, refl, sym, ap, _∙_}
+-- Past the end nothing is left, as `drop` has it.
+use mathlib.Core.Path.{sym, ap, _∙_}
 use Prim.Native.Nat.{_≤_}
 use native.Mathlib.Omega.{arith}
 use lib.ListN.{length, drop}
@@ -12,8 +13,8 @@ returns c =
     let from = c .if-at-input .from in
     take-rest xs from
     ∙ elim (c .if-at-input .came) [
-        then-at-input w ↦ ap (λ n. drop n xs) (w .from-is)
+      | then-at-input w ↦ ap (λ n. drop n xs) (w .from-is)
       | else-at-input w ↦
           let past : length xs ≤ from = omega (arith, w .from-is) in
           drop-all from xs past ∙ sym (drop-all (c .args .at) xs (w .if-at-input .left))
-      ]
+    ]

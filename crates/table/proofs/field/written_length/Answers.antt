@@ -1,3 +1,4 @@
+-- A quoted text has two bytes more.
 use native.Mathlib.Omega.{arith}
 use lib.ListN.{length-append}
 use Rattle.table.proofs.field.written_length.Needs as need

@@ -1,9 +1,8 @@
-use mathlib.Core.Path.{_≡_, refl, sym}
-use Prim.Native.Nat.{_+_, _<_, _≤_}
+-- Each comma brings one more field; the first that does not stand is the fault.
+use Prim.Native.Nat.{_+_}
 use native.Mathlib.Omega.{arith}
-use lib.ListN.{length, getD}
 use Rattle.std.proofs.shelf.Results.{err-from-errBy}
-use Rattle.table.proofs.Passes.{sofar-first, sofar-more, sofar-broken, sofar-done, refused-field}
+use Rattle.table.proofs.FirstPass.{sofar-first, sofar-more, sofar-broken, sofar-done, refused-field}
 use Rattle.table.proofs.line.read_line.Needs as need
 use Rattle.table.proofs.line.read_line.Needs.{then-loop-end-test·else-input-end-eq44, else-loop-end-test, then-end-input, else-end-input}
 
@@ -25,19 +24,17 @@ cast-result c = record { fits = omega (arith, c .loop-end .inv .few, c .in-Conti
 
 pub returns : need.returns
 returns c =
-    let end = c .loop-end .end in
-    let xs = c .args .input .now in
     sofar-done (c .loop-end .inv) (c .in-Continue-check-length .ensures tt)
     (λ l e. elim (c .loop-end-test .came) [
-        then-loop-end-test·else-input-end-eq44 w ↦ w .if-input-end-eq44 .left e
+      | then-loop-end-test·else-input-end-eq44 w ↦ w .if-input-end-eq44 .left e
       | else-loop-end-test w ↦ omega (arith, w .loop-end-test .left)
-      ])
+    ])
     (c .if-end-input .next)
     (λ l. elim (c .if-end-input .came) [
-        then-end-input w ↦ w .next-is
+      | then-end-input w ↦ w .next-is
       | else-end-input w ↦ absurd (omega (arith, w .if-end-input .left))
-      ])
+    ])
     (λ l. elim (c .if-end-input .came) [
-        then-end-input w ↦ absurd (omega (arith, w .if-end-input .taken))
+      | then-end-input w ↦ absurd (omega (arith, w .if-end-input .taken))
       | else-end-input w ↦ w .next-is
-      ])
+    ])

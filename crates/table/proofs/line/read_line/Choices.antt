@@ -1,6 +1,7 @@
+-- Fields are read up to the byte `end`.
 use Prim.Native.Nat.{_-_}
 use lib.ListN.{length}
-use Rattle.table.proofs.Passes.{Sofar}
+use Rattle.table.proofs.FirstPass.{Sofar}
 use Rattle.table.proofs.line.read_line.Given as given
 
 abbrev pub Inv-loop-end : given.InvT-loop-end

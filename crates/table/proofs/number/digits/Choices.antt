@@ -1,3 +1,4 @@
+-- The bytes passed are digits, and their value is held.
 use mathlib.Core.Path.{_≡_}
 use lib.ListN.{take}
 use Rattle.std.specs.shelf.Lists.{All}

@@ -1,5 +1,5 @@
-use mathlib.Core.Path.{_≡_, _∙_}
-use Prim.Native.Nat.{_^_, _<_}
+-- Seven digits and a minus fit 32 bits.
+use mathlib.Core.Path.{_∙_}
 use native.Mathlib.Omega.{arith}
 use lib.IntN.{pos, _-ℤ_}
 use mir.Syntax.{w32}
@@ -38,7 +38,7 @@ pub returns-in-None-digits : need.returns-in-None-digits
 returns-in-None-digits c =
     none-unsigned (c .args .bytes .now)
     (λ l e. elim (c .else-bytes-gt0 .came) [
-        else-bytes-gt0·by·then-bytes-gt0·else-bytes-eq45 w ↦ w .if-bytes-eq45 .left e
+      | else-bytes-gt0·by·then-bytes-gt0·else-bytes-eq45 w ↦ w .if-bytes-eq45 .left e
       | else-bytes-gt0·by·else-bytes-gt0 w ↦ omega (arith, w .if-bytes-gt0 .left)
-      ])
+    ])
     (c .in-None-digits .ensures tt)

@@ -1,4 +1,5 @@
-use mathlib.Core.Path.{_≡_, sym, _∙_}
+-- Equal slices are equal lists of bytes.
+use mathlib.Core.Path.{sym, _∙_}
 use Rattle.std.proofs.shelf.Equals.{matches-decides}
 use Rattle.table.proofs.field.Field.is_word.Needs as need
 

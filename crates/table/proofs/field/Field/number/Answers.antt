@@ -1,4 +1,5 @@
-use mathlib.Core.Path.{_≡_, refl, sym, subst}
+-- What is said of the text's bytes holds of the field.
+use mathlib.Core.Path.{refl, sym, subst}
 use mir.Syntax.{w32}
 use mir.Val.{SFits}
 use borrow.Author.Needs.{needs}

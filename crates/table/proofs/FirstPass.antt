@@ -1,4 +1,4 @@
--- Reading a record field by field: what a first pass keeps, and what a second pass over a record meets.
+-- Reading a record field by field: what each field that is read adds, and what is known at a fault and at the end.
 use mathlib.Core.Path.{_≡_, refl, sym, ap, subst, _∙_}
 use mathlib.Core.List.{List, [], _∷_, _++_}
 use mathlib.Core.Logic.{⊎-elim}
@@ -10,12 +10,10 @@ use Rattle.std.proofs.shelf.Tests.{cases-lt}
 use Rattle.table.specs.declared.fault.TextFault.{TextFault}
 use Rattle.table.specs.declared.fault.TextFault.the-variants.{Malformed}
 use Rattle.table.specs.declared.field.FieldEnd.{FieldEnd}
-use Rattle.table.specs.declared.line.LineEnd.{LineEnd}
-use Rattle.table.specs.Cells.{Cell, cell-of, Closes, at-end, at-line, Ends, at-comma, at-close, Stands, Malformed-at}
-use Rattle.table.specs.Lines.{Line, Begins, Broken, Field-read, Leaves, Line-read, Line-refused}
+use Rattle.table.specs.Cells.{Cell, Closes, at-end, at-line, Ends, at-comma, at-close, Stands, Malformed-at}
+use Rattle.table.specs.Lines.{most-bytes, Begins, Broken, Field-read, Leaves, Line-read, Line-refused}
 use Rattle.table.specs.Lines as lines
-use Rattle.table.proofs.Cuts.{stands-unique}
-use Rattle.table.proofs.Chains.{line-one, line-more, begins-more, line-last}
+use Rattle.table.proofs.Chains.{begins-more, line-last}
 
 -- `fields` fields of the record at byte `at` are read, and the last of them ends at byte `end`
 pub record Sofar (xs : List ℕ) (at fields end : ℕ) : Type 0 where
@@ -72,7 +70,7 @@ sofar-broken {xs} {end = end} s l e none = record {
   malformed = none;
 }
 
-pub refused-field : (xs : List ℕ) (at rec f : ℕ) (e : TextFault) → e ≡ Malformed rec f → Broken (drop at xs) f → length xs ≤ 65536 → Line-refused xs at rec e
+pub refused-field : (xs : List ℕ) (at rec f : ℕ) (e : TextFault) → e ≡ Malformed rec f → Broken (drop at xs) f → length xs ≤ most-bytes → Line-refused xs at rec e
 refused-field xs at rec f e is broken short = subst (Line-refused xs at rec) (sym is) (refl, broken, short)
 
 -- no comma follows, so the record closes
@@ -94,9 +92,9 @@ leaving xs end (at-end e) n in′ past =
 leaving xs end (at-line ys e) n in′ past =
     ⊎-elim
     (λ l.
-        let two : n ≡ end + 2 = in′ l in
-        let rest : ys ≡ drop n xs = ap (drop 2) (sym e) ∙ drop-drop 2 end xs ∙ ap (λ m. drop m xs) (sym two) in
-        lines.at-line (e ∙ ap (λ zs. 13 ∷ 10 ∷ zs) rest) two)
+    let two : n ≡ end + 2 = in′ l in
+    let rest : ys ≡ drop n xs = ap (drop 2) (sym e) ∙ drop-drop 2 end xs ∙ ap (λ m. drop m xs) (sym two) in
+    lines.at-line (e ∙ ap (λ zs. 13 ∷ 10 ∷ zs) rest) two)
     (λ l. let d = drop-all end xs l in let z : _≡_ {A = ℕ} 0 1 = cc in absurd (omega arith))
     (cases-lt end (length xs))
 
@@ -106,7 +104,7 @@ leaves-within xs end n (lines.at-line e is) l =
     let long = ap length e in
     omega (arith, length-drop end xs)
 
-pub sofar-done : {xs : List ℕ} {at fields end : ℕ} → Sofar xs at fields end → length xs ≤ 65536 → (end < length xs → getD xs end 0 ≡ 44 → ⊥) → (n : ℕ) → (end < length xs → n ≡ end + 2) → (length xs ≤ end → n ≡ end) → Line-read xs at (record { fields = fields; end = end; next = n })
+pub sofar-done : {xs : List ℕ} {at fields end : ℕ} → Sofar xs at fields end → length xs ≤ most-bytes → (end < length xs → getD xs end 0 ≡ 44 → ⊥) → (n : ℕ) → (end < length xs → n ≡ end + 2) → (length xs ≤ end → n ≡ end) → Line-read xs at (record { fields = fields; end = end; next = n })
 sofar-done {xs} {end = end} s short no-comma n in′ past =
     let c = closed xs end (s .stands .ends) no-comma in
     let off = leaving xs end c n in′ past in
@@ -119,39 +117,4 @@ sofar-done {xs} {end = end} s short no-comma n in′ past =
       leaves = off;
       next-within = λ l. leaves-within xs end n off (s .within l);
       short = short;
-    }
-
--- a record that begins before the end is left behind
-pub read-advances : {xs : List ℕ} {at : ℕ} {e : LineEnd} → Line-read xs at e → at < length xs → at < e .next
-read-advances {xs} {at} {e} r l = advances (r .leaves)
-  where
-    advances : Leaves xs (e .end) (e .next) → at < e .next
-    advances (lines.at-end d is) = omega (arith, r .low, simp length-drop at (ap length d))
-    advances (lines.at-line d is) = omega (arith, r .low)
-
--- a field that is read where a record of one field begins is that field
-pub pass-last : (t : Cell) {xs ys : List ℕ} {at rec fld : ℕ} {e : FieldEnd} → Line (t ∷ []) (drop at xs) ys → Field-read xs at rec fld e → (cell-of (e .field .text) ≡ t) × (drop (e .next) xs ≡ ys)
-pass-last t l k = stands-unique _ t (k .stands) (line-one t l)
-
--- where a record of more fields begins it is the first, and after a comma the others follow
-pub record Passed (t : Cell) (us : List Cell) (xs ys : List ℕ) (e : FieldEnd) : Type 0 where
-  pub same : cell-of (e .field .text) ≡ t
-  pub inside : e .next < length xs
-  pub comma-next : getD xs (e .next) 0 ≡ 44
-  pub others : Line us (drop (e .next + 1) xs) ys
-
-pub pass-more : (t u : Cell) (us : List Cell) {xs ys : List ℕ} {at rec fld : ℕ} {e : FieldEnd} → Line (t ∷ u ∷ us) (drop at xs) ys → Field-read xs at rec fld e → Passed t (u ∷ us) xs ys e
-pass-more t u us {xs} {ys} {e = e} l k =
-    let f = line-more t u us l in
-    let r = stands-unique _ t (k .stands) (f .stands) in
-    let there : drop (e .next) xs ≡ 44 ∷ f .after = r .1 in
-    let in′ : e .next < length xs =
-        ⊎-elim (λ h. h) (λ past. let d = drop-all (e .next) xs past in let z : _≡_ {A = ℕ} 0 1 = cc in absurd (omega arith)) (cases-lt (e .next) (length xs)) in
-    let d = drop-more xs (e .next) 0 in′ in
-    let rest : f .after ≡ drop (e .next + 1) xs = cc in
-    record {
-      same = r .0;
-      inside = in′;
-      comma-next = cc;
-      others = subst (λ l. Line (u ∷ us) l ys) rest (f .line);
     }

@@ -1,0 +1,5 @@
+use Rattle.table.proofs.Tables.{reading-rejoins}
+use Rattle.table.proofs.unique.reading_rejoins.Needs as need
+
+pub returns : need.returns
+returns c = reading-rejoins
