@@ -1,1 +1,2 @@
 pub mod Extents
+pub mod Surveys
