@@ -1,3 +1,4 @@
 // What a run's table gave: the extent of its surface.
 pub mod extent;
 pub mod survey;
+pub mod text;
