@@ -57,16 +57,16 @@ pub impl<'a> Surface for Edge<'a> as EdgeSurface {
     }
 
     fn place(&self, k: usize) -> Result<u32, SurfaceFault> {
-        if k >= self.line.len() {
+        if k >= self.stations() {
             return Err(SurfaceFault::Absent);
         }
         Ok(self.line[k].place as u32)
     }
 
     fn ordinate(&self, j: usize, k: usize) -> Result<i32, SurfaceFault> {
-        if j >= self.slices || k >= self.line.len() {
+        if j >= self.slices() || k >= self.stations() {
             return Err(SurfaceFault::Absent);
         }
-        Ok(mix_edges(self.line[k].ordinate, self.left, self.right, self.slices, j))
+        Ok(mix_edges(self.line[k].ordinate, self.left, self.right, self.slices(), j))
     }
 }

@@ -1,3 +1,4 @@
 pub mod Ordinates
-pub mod Sound
 pub mod Padded
+pub mod Sound
+mod Spreading

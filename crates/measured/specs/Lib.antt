@@ -1,5 +1,6 @@
 pub mod Laid
 pub mod Spread
+pub mod Spreading
 pub mod Rows
 pub mod Mixes
 pub mod Judged

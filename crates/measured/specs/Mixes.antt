@@ -45,7 +45,7 @@ step-under j x xs more true e (suc k) h = more k (omega arith)
 step-under j x xs more false e k h = absurd (omega arith)
 
 -- each path that is counted lies before j
-under : (j : ℕ) (xs : List ℕ) (k : ℕ) → k < leading (λ p. ltb p j) xs → getD xs k 0 < j
+pub under : (j : ℕ) (xs : List ℕ) (k : ℕ) → k < leading (λ p. ltb p j) xs → getD xs k 0 < j
 under j [] k h = absurd (omega arith)
 under j (x ∷ xs) k h = step-under j x xs (under j xs) (ltb x j) refl k h
 
@@ -54,7 +54,7 @@ step-reached j x xs more true e h = rw one-add (more (omega arith))
 step-reached j x xs more false e h = ltb-false x j e
 
 -- the next one does not
-reached : (j : ℕ) (xs : List ℕ) → leading (λ p. ltb p j) xs < length xs → j ≤ getD xs (leading (λ p. ltb p j) xs) 0
+pub reached : (j : ℕ) (xs : List ℕ) → leading (λ p. ltb p j) xs < length xs → j ≤ getD xs (leading (λ p. ltb p j) xs) 0
 reached j [] h = absurd (omega arith)
 reached j (x ∷ xs) h = step-reached j x xs (reached j xs) (ltb x j) refl h
 

@@ -117,7 +117,7 @@ pub impl<'a> Surface for Measured<'a> as MeasuredSurface {
     }
 
     fn ordinate(&self, j: usize, k: usize) -> Result<i32, SurfaceFault> {
-        if j >= self.layout.slices || k >= self.stations {
+        if j >= self.slices() || k >= self.stations {
             return Err(SurfaceFault::Absent);
         }
         let row = self.rows[k];
