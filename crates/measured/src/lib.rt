@@ -5,3 +5,5 @@ pub mod laws;
 pub mod measured;
 mod padding;
 pub mod row;
+#[cfg(test)]
+mod tests;
