@@ -61,10 +61,11 @@ module _ (n f g : ℤ) (ss : List Station) (x : Unit {0}) (e : Ok x ≡ edge-jud
   pub lined : Lined (natAbs n) ss
   lined =
       let s = slices in
-      let m = stations in
-      ((s .1, s .2, m .0, m .1, place-first 0 (pos 0) (place-at ss 0) (station 0 (omega arith) .0) (omega arith)),
-       rises,
-       (λ k h. place-low k (place-before ss k) (place-at ss k) (station k h .0)))
+      let m = stations in (
+        (s .1, s .2, m .0, m .1, place-first 0 (pos 0) (place-at ss 0) (station 0 (omega arith) .0) (omega arith)),
+        rises,
+        (λ k h. place-low k (place-before ss k) (place-at ss k) (station k h .0)),
+      )
 
   pub leaning : Leaning f g ss
   leaning = (factors .0, factors .1, λ k h. station k h .1)

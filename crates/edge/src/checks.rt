@@ -16,10 +16,16 @@ fn check_station(line: &[Station], k: usize) -> Result<(), SurfaceFault>
     let station = line[k];
     let before = if k == 0 { 0 } else { line[k - 1].place };
     if !place_fits(k, i64::from(before), station.place) {
-        return Err(SurfaceFault::Place { record: 0, field: 0 });
+        return Err(SurfaceFault::Place {
+            record: 0,
+            field: 0,
+        });
     }
     if station.ordinate.unsigned_abs() > 50_000 {
-        return Err(SurfaceFault::Ordinate { record: 0, field: 0 });
+        return Err(SurfaceFault::Ordinate {
+            record: 0,
+            field: 0,
+        });
     }
     Ok(())
 }
@@ -38,11 +44,17 @@ pub fn check_edge(slices: i32, left: i32, right: i32, line: &[Station]) -> Resul
     ensures { λ r. ⌜ r ≡ edge-judged slices left right (now (line .entry)) ⌝ }
 {
     if slices < 60 || slices > 300 || line.len() < 2 || line.len() > 64 {
-        return Err(SurfaceFault::Counts { record: 0, field: 0 });
+        return Err(SurfaceFault::Counts {
+            record: 0,
+            field: 0,
+        });
     }
     check_line(line)?;
     if left.unsigned_abs() > 2_000 || right.unsigned_abs() > 2_000 {
-        return Err(SurfaceFault::Ordinate { record: 0, field: 0 });
+        return Err(SurfaceFault::Ordinate {
+            record: 0,
+            field: 0,
+        });
     }
     Ok(())
 }

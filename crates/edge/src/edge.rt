@@ -7,8 +7,8 @@ ghost use Rattle.surface.specs.Verdict.{Answered};
 use crate::checks::check_edge;
 use crate::shares::mix_edges;
 use crate::station::Station;
-use surface::fault::SurfaceFault;
 use surface::Surface;
+use surface::fault::SurfaceFault;
 
 // One line of stations, held for reading, and its factor at each edge in thousandths.
 #[derive(Drop)]
@@ -22,7 +22,16 @@ pub struct Edge<'a> {
     ghost leaning: { Leaning left right (line .now) },
 }
 
-static LEVEL: [Station; 2] = [Station { place: 0, ordinate: 0 }, Station { place: 1, ordinate: 0 }];
+static LEVEL: [Station; 2] = [
+    Station {
+        place: 0,
+        ordinate: 0,
+    },
+    Station {
+        place: 1,
+        ordinate: 0,
+    },
+];
 
 impl<'a> Edge<'a> {
     // The built-in surface, level at 0, which making fills.
@@ -30,15 +39,31 @@ impl<'a> Edge<'a> {
         ensures slices { λ r. ⌜ r .slices ≡ 60 ⌝ }
         ensures factors { λ r. ⌜ r .left ≡ pos 0 ⌝ ∗ ⌜ r .right ≡ pos 0 ⌝ }
     {
-        Edge { slices: 60, left: 0, right: 0, line: &LEVEL }
+        Edge {
+            slices: 60,
+            left: 0,
+            right: 0,
+            line: &LEVEL,
+        }
     }
 
     // Makes `self` the surface of a line over so many slices, with its factors at the left and the right edge.
-    pub fn make(&mut self, slices: i32, left: i32, right: i32, line: &'a [Station]) -> Result<(), SurfaceFault>
+    pub fn make(
+        &mut self,
+        slices: i32,
+        left: i32,
+        right: i32,
+        line: &'a [Station],
+    ) -> Result<(), SurfaceFault>
         ensures { λ r. ⌜ Answered (edge-judged slices left right (now (line .entry))) r ((pos (now (self .exit) .slices) ≡ slices) × (now (self .exit) .left ≡ left) × (now (self .exit) .right ≡ right) × (now (self .exit) .line .now ≡ now (line .entry))) (now (self .exit) ≡ now (self .entry)) ⌝ }
     {
         check_edge(slices, left, right, line)?;
-        *self = Edge { slices: slices as usize, left, right, line };
+        *self = Edge {
+            slices: slices as usize,
+            left,
+            right,
+            line,
+        };
         Ok(())
     }
 }
@@ -67,6 +92,12 @@ pub impl<'a> Surface for Edge<'a> as EdgeSurface {
         if j >= self.slices() || k >= self.stations() {
             return Err(SurfaceFault::Absent);
         }
-        Ok(mix_edges(self.line[k].ordinate, self.left, self.right, self.slices(), j))
+        Ok(mix_edges(
+            self.line[k].ordinate,
+            self.left,
+            self.right,
+            self.slices(),
+            j,
+        ))
     }
 }

@@ -117,10 +117,11 @@ module _ (n : ℤ) (ps : List ℤ) (x : Unit {0}) (e : Ok x ≡ header-judged n 
   header-sound =
       let s = slices in
       let m = paths-counted in
-      let long : length (laid-paths ps) ≡ length ps + (8 - length ps) = simp (length-append, length-map, length-replicate) in
-      ((s .1, s .2, m .0, m .1, omega arith),
-       (λ i h. let k = path-rises i h in let a = at i (omega arith) in let b = at (i + 1) h in omega arith),
-       (λ i h. let k = path-low i h in let a = at i h in omega arith))
+      let long : length (laid-paths ps) ≡ length ps + (8 - length ps) = simp (length-append, length-map, length-replicate) in (
+        (s .1, s .2, m .0, m .1, omega arith),
+        (λ i h. let k = path-rises i h in let a = at i (omega arith) in let b = at (i + 1) h in omega arith),
+        (λ i h. let k = path-low i h in let a = at i h in omega arith),
+      )
 
   pub paths-natural : (i : ℕ) → i < length ps → pos 0 ≤ℤ getD ps i (pos 0)
   paths-natural i h = natural (getD ps i (pos 0)) (path-passed i h .0)

@@ -49,14 +49,14 @@ module _ (n m : ℕ) (ps : List ℕ) (w : Laid n m ps) where
         let f = few in
         ⊎-elim
         (λ less.
-          let a = next (omega arith) in
-          let b = low (i - 1) (omega arith) in
-          let c = rises (before m ps j) (i - 1) (omega arith) (omega arith) in
-          absurd (omega arith))
+        let a = next (omega arith) in
+        let b = low (i - 1) (omega arith) in
+        let c = rises (before m ps j) (i - 1) (omega arith) (omega arith) in
+        absurd (omega arith))
         (λ more. ⊎-elim
-          (λ past. let a = counted i past in let b = high (omega arith) in absurd (omega arith))
-          (λ le. omega arith)
-          (cases-lt i (before m ps j)))
+        (λ past. let a = counted i past in let b = high (omega arith) in absurd (omega arith))
+        (λ le. omega arith)
+        (cases-lt i (before m ps j)))
         (cases-lt (before m ps j) i)
 
 pub left-of-paths : Left-of-paths

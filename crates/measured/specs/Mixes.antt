@@ -61,12 +61,12 @@ reached j (x ∷ xs) h = step-reached j x xs (reached j xs) (ltb x j) refl h
 past-within : (i n m : ℕ) (ps : List ℕ) (vs : List ℤ) (j b : ℕ) → Laid n m ps → ((k : ℕ) → k < m → natAbs (getD vs k (pos 0)) ≤ b) → i ≤ m → (0 < i → getD ps (i - 1) 0 < j) → (i < m → j ≤ getD ps i 0) → natAbs (spread-past i m ps vs j) ≤ b
 past-within i n m ps vs j b w h few left right =
     cond-both (eqb i 0) _ _ (λ z. natAbs z ≤ b) (λ e. h 0 (w .0 .2)) (λ some.
-      cond-both (eqb i m) _ _ (λ z. natAbs z ≤ b) (λ e. h (m - 1) (omega arith)) (λ more.
-        let lo = eqb-false i 0 some in
-        let hi = eqb-false i m more in
-        let l = left (omega arith) in
-        let r = right (omega arith) in
-        between-within (getD ps (i - 1) 0) (getD vs (i - 1) (pos 0)) (getD ps i 0) (getD vs i (pos 0)) j b (omega arith) (omega arith) r (h (i - 1) (omega arith)) (h i (omega arith))))
+    cond-both (eqb i m) _ _ (λ z. natAbs z ≤ b) (λ e. h (m - 1) (omega arith)) (λ more.
+    let lo = eqb-false i 0 some in
+    let hi = eqb-false i m more in
+    let l = left (omega arith) in
+    let r = right (omega arith) in
+    between-within (getD ps (i - 1) 0) (getD vs (i - 1) (pos 0)) (getD ps i 0) (getD vs i (pos 0)) j b (omega arith) (omega arith) r (h (i - 1) (omega arith)) (h i (omega arith))))
 
 pub spread-within : (n m : ℕ) (ps : List ℕ) (vs : List ℤ) (j b : ℕ) → Laid n m ps → ((i : ℕ) → i < m → natAbs (getD vs i (pos 0)) ≤ b) → natAbs (spread m ps vs j) ≤ b
 spread-within n m ps vs j b w h =

@@ -13,7 +13,10 @@ fn check_path(slices: i32, paths: &[i32], i: usize) -> Result<(), SurfaceFault>
     ensures { λ r. ⌜ r ≡ path-judged slices (now (paths .entry)) i ⌝ }
 {
     if paths[i] < 0 || slices <= paths[i] || (i > 0 && paths[i] <= paths[i - 1]) {
-        return Err(SurfaceFault::Counts { record: 1, field: i as u32 + 2 });
+        return Err(SurfaceFault::Counts {
+            record: 1,
+            field: i as u32 + 2,
+        });
     }
     Ok(())
 }
@@ -34,7 +37,10 @@ pub fn check_header(slices: i32, paths: &[i32]) -> Result<(), SurfaceFault>
     ensures { λ r. ⌜ r ≡ header-judged slices (now (paths .entry)) ⌝ }
 {
     if slices < 60 || slices > 300 || paths.len() < 1 || paths.len() > 8 {
-        return Err(SurfaceFault::Counts { record: 1, field: 0 });
+        return Err(SurfaceFault::Counts {
+            record: 1,
+            field: 0,
+        });
     }
     check_paths(slices, paths)
 }
@@ -46,7 +52,10 @@ pub fn check_ordinates(line: u32, ordinates: &[i32]) -> Result<(), SurfaceFault>
 {
     for i in 0..ordinates.len() {
         if ordinates[i].unsigned_abs() > 100_000 {
-            return Err(SurfaceFault::Ordinate { record: line, field: i as u32 + 2 });
+            return Err(SurfaceFault::Ordinate {
+                record: line,
+                field: i as u32 + 2,
+            });
         }
     }
     Ok(())
@@ -58,9 +67,16 @@ fn check_row(count: usize, rows: &[Row], k: usize) -> Result<(), SurfaceFault>
     ensures { λ r. ⌜ r ≡ row-judged count (now (rows .entry)) k ⌝ }
 {
     let row = rows[k];
-    let rises = if k == 0 { row.place == 0 } else { rows[k - 1].place < row.place };
+    let rises = if k == 0 {
+        row.place == 0
+    } else {
+        rows[k - 1].place < row.place
+    };
     if !rises || row.place >= 200_000 {
-        return Err(SurfaceFault::Place { record: k as u32 + 2, field: 1 });
+        return Err(SurfaceFault::Place {
+            record: k as u32 + 2,
+            field: 1,
+        });
     }
     check_ordinates(k as u32 + 2, &row.ordinates[0..count])
 }
@@ -86,7 +102,10 @@ pub fn check_seal(count: usize, rows: &[Row], t: usize) -> Result<(), SurfaceFau
     }
     check_rows(count, rows, t)?;
     if t < 2 {
-        return Err(SurfaceFault::Counts { record: 0, field: 0 });
+        return Err(SurfaceFault::Counts {
+            record: 0,
+            field: 0,
+        });
     }
     Ok(())
 }

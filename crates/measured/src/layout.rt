@@ -70,7 +70,11 @@ impl Layout {
     {
         check_header(slices, paths)?;
         let all = laid(paths);
-        Ok(Layout { slices: slices as usize, count: paths.len(), paths: all })
+        Ok(Layout {
+            slices: slices as usize,
+            count: paths.len(),
+            paths: all,
+        })
     }
 
     // How many paths lie before slice j.
@@ -99,7 +103,13 @@ impl Layout {
         } else if i == self.count {
             ordinates[i - 1]
         } else {
-            mix(self.paths[i - 1], ordinates[i - 1], self.paths[i], ordinates[i], j)
+            mix(
+                self.paths[i - 1],
+                ordinates[i - 1],
+                self.paths[i],
+                ordinates[i],
+                j,
+            )
         }
     }
 }

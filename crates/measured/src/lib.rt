@@ -1,7 +1,7 @@
 // The measured surface: a draft that takes stations, and the sealed surface that answers for them.
 mod checks;
-mod layout;
 pub mod laws;
+mod layout;
 pub mod measured;
 mod padding;
 pub mod row;

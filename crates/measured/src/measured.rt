@@ -13,9 +13,9 @@ use crate::checks::check_seal;
 use crate::layout::Layout;
 use crate::padding::padded;
 use crate::row::Row;
+use surface::Surface;
 use surface::fault::SurfaceFault;
 use surface::stations::place_fits;
-use surface::Surface;
 
 // A sealed surface, over rows held for reading.
 #[derive(Drop)]
@@ -27,15 +27,32 @@ pub struct Measured<'a> {
     ghost ranged: { Ranged (layout .count) stations (rows .now) },
 }
 
-static LEVEL: [Row; 2] = [Row { place: 0, ordinates: [0; 8] }, Row { place: 1, ordinates: [0; 8] }];
+static LEVEL: [Row; 2] = [
+    Row {
+        place: 0,
+        ordinates: [0; 8],
+    },
+    Row {
+        place: 1,
+        ordinates: [0; 8],
+    },
+];
 
 impl<'a> Measured<'a> {
     // The built-in surface, level at 0, which sealing fills.
     pub fn level() -> Measured<'a>
         ensures { λ r. ⌜ r .stations ≡ 2 ⌝ ∗ ⌜ r .layout .slices ≡ 60 ⌝ }
     {
-        let layout = Layout { slices: 60, count: 1, paths: [0; 8] };
-        Measured { layout, stations: 2, rows: &LEVEL }
+        let layout = Layout {
+            slices: 60,
+            count: 1,
+            paths: [0; 8],
+        };
+        Measured {
+            layout,
+            stations: 2,
+            rows: &LEVEL,
+        }
     }
 }
 
@@ -57,7 +74,12 @@ impl Draft {
     }
 
     // One station more, in the next of the rows lent.
-    pub fn station(&mut self, rows: &mut [Row], place: i32, ordinates: &[i32]) -> Result<(), SurfaceFault>
+    pub fn station(
+        &mut self,
+        rows: &mut [Row],
+        place: i32,
+        ordinates: &[i32],
+    ) -> Result<(), SurfaceFault>
         ensures verdict { λ r. ⌜ r ≡ station-judged (now (self .entry) .layout .count) (now (self .entry) .filled) (now (rows .entry)) place (now (ordinates .entry)) ⌝ }
         ensures layout { λ r. ⌜ now (self .exit) .layout ≡ now (self .entry) .layout ⌝ }
         ensures filled { λ r. ⌜ now (self .exit) .filled ≡ cond (isOk r) (now (self .entry) .filled + 1) (now (self .entry) .filled) ⌝ }
@@ -67,28 +89,45 @@ impl Draft {
         let count = self.layout.count;
         let line = k as u32 + 2;
         if k >= 64 {
-            return Err(SurfaceFault::Counts { record: line, field: 0 });
+            return Err(SurfaceFault::Counts {
+                record: line,
+                field: 0,
+            });
         }
         if rows.len() < 64 || ordinates.len() < count {
             return Err(SurfaceFault::Short { record: line });
         }
         let before = if k == 0 { 0 } else { rows[k - 1].place };
         if !place_fits(k, i64::from(before), place) {
-            return Err(SurfaceFault::Place { record: line, field: 1 });
+            return Err(SurfaceFault::Place {
+                record: line,
+                field: 1,
+            });
         }
         check_ordinates(line, &ordinates[0..count])?;
-        rows[k] = Row { place: place as u32, ordinates: padded(&ordinates[0..count]) };
+        rows[k] = Row {
+            place: place as u32,
+            ordinates: padded(&ordinates[0..count]),
+        };
         self.filled = k + 1;
         Ok(())
     }
 
     // Makes `into` the surface of the stations taken, or gives the draft back.
-    pub fn seal<'a>(self, rows: &'a [Row], into: &mut Measured<'a>) -> Result<(), (Draft, SurfaceFault)>
+    pub fn seal<'a>(
+        self,
+        rows: &'a [Row],
+        into: &mut Measured<'a>,
+    ) -> Result<(), (Draft, SurfaceFault)>
         ensures { λ r. ⌜ Settled (seal-judged (self .layout .count) (now (rows .entry)) (self .filled)) self r ((now (into .exit) .layout ≡ self .layout) × (now (into .exit) .stations ≡ self .filled) × (now (into .exit) .rows .now ≡ now (rows .entry))) (now (into .exit) ≡ now (into .entry)) ⌝ }
     {
         match check_seal(self.layout.count, rows, self.filled) {
             Ok(()) => {
-                *into = Measured { layout: self.layout, stations: self.filled, rows };
+                *into = Measured {
+                    layout: self.layout,
+                    stations: self.filled,
+                    rows,
+                };
                 Ok(())
             }
             Err(f) => Err((self, f)),

@@ -4,10 +4,10 @@ use crate::measured::Measured;
 use crate::measured::MeasuredSurface;
 use crate::row::Row;
 use std::test::*;
+use surface::Surface;
 use surface::fault::SurfaceFault;
 use surface::fault::SurfaceFaultDebug;
 use surface::fault::SurfaceFaultPartialEq;
-use surface::Surface;
 
 // Two stations with the ordinates 0 and -1 at the paths 30 and 89.
 fn sloped(rows: &mut [Row]) -> Result<Draft, SurfaceFault> {
@@ -28,7 +28,10 @@ fn first_ordinate(draft: Draft, rows: &[Row], slice: usize) -> Result<i32, Surfa
 
 #[test]
 fn ordinates_are_rounded_down() -> Result<(), Fail> {
-    let mut rows = [Row { place: 0, ordinates: [0; 8] }; 64];
+    let mut rows = [Row {
+        place: 0,
+        ordinates: [0; 8],
+    }; 64];
     let draft = sloped(&mut rows)?;
     check_eq(first_ordinate(draft, &rows, 31), Ok(-1))
 }

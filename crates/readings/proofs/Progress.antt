@@ -75,8 +75,8 @@ module _ (cs : List Cell) (ys input : List ℕ) (i p : ℕ) (into : List ℤ) (g
     written = subst (λ (l : List Cell). Written l (g .numbers ++ (v ∷ []))) (sym (take-more cs i (plain []) h)) (written-push (take i cs) (g .numbers) (getD cs i (plain [])) v (g .written) (subst (λ (c : Cell). Writes (content c) v) (progress-field k) w));
     held = kept;
     line = λ more.
-      let rest = first-read (getD cs i (plain [])) (drop (i + 1) cs) here k .1 (simp length-drop (omega arith)) in
-      subst (λ (n : ℕ). Line (drop (i + 1) cs) (drop n input) ys) (sym (step (rest .0))) (rest .1);
+        let rest = first-read (getD cs i (plain [])) (drop (i + 1) cs) here k .1 (simp length-drop (omega arith)) in
+        subst (λ (n : ℕ). Line (drop (i + 1) cs) (drop n input) ys) (sym (step (rest .0))) (rest .1);
   }
 
   count : length (g .numbers) ≡ i
@@ -92,6 +92,7 @@ module _ (cs : List Cell) (ys input : List ℕ) (i p : ℕ) (into : List ℤ) (g
           let n = count in
           let lt′ : k < length (g .numbers) = omega arith in
           getD-set-other into i k v (pos 0) off ∙ g .held k lt′ few ∙ sym (getD-append-left (g .numbers) (v ∷ []) (pos 0) k lt′)
+
       at : (k : ℕ) → k < length (g .numbers ++ (v ∷ [])) → i ≤ k → getD (set into i v) k (pos 0) ≡ getD (g .numbers ++ (v ∷ [])) k (pos 0)
       at k low ge =
           let n = count in

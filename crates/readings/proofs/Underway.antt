@@ -83,7 +83,7 @@ module _ (input : List ℕ) (old rows : List Row) (fields at rec : ℕ) (d : Dra
       let lawful = subst (λ (c : ℕ). station-judged c (d .filled) rows (t .place) (t .ordinates) ≡ Ok tt) m (t .lawful) in
       let lawful′ = subst (λ (i : ℕ). station-judged (length (u .numbers)) i rows (t .place) (t .ordinates) ≡ Ok tt) k lawful in
       let is : new ≡ set rows (length (r .rows-read)) (row-of (length (u .numbers)) (t .place) (t .ordinates)) =
-          t .filled ∙ ap (λ (c : ℕ). set rows (d .filled) (row-of c (t .place) (t .ordinates))) m ∙ ap (λ (i : ℕ). set rows i (row-of (length (u .numbers)) (t .place) (t .ordinates))) k in
+      t .filled ∙ ap (λ (c : ℕ). set rows (d .filled) (row-of c (t .place) (t .ordinates))) m ∙ ap (λ (i : ℕ). set rows i (row-of (length (u .numbers)) (t .place) (t .ordinates))) k in
       record {
         numbers = u .numbers;
         reached = record {
@@ -111,9 +111,10 @@ module _ (input : List ℕ) (old rows : List Row) (fields at rec : ℕ) (d : Dra
   stops f short low s = runs.row rows (u .numbers) (d .filled) (drop at input) f short (u .reached) (left low) (subst (λ (m : ℕ). Row-stops m (d .filled) rows (drop at input) f) count s)
 
   -- no row is left
-  pub ends : length input ≤ at → Run-taken input old rows (d .layout .slices) (d .layout .count) (d .layout .paths) (d .filled)
-  ends h = record {
+  pub ends : length input ≤ 65536 → length input ≤ at → Run-taken input old rows (d .layout .slices) (d .layout .count) (d .layout .paths) (d .filled)
+  ends short h = record {
     numbers = u .numbers;
+    short = short;
     reached = subst (Reached input old rows (u .numbers) (d .filled)) (drop-all at input h) (u .reached);
     begun = u .begun;
   }

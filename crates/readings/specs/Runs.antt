@@ -103,6 +103,7 @@ pub record Reached (input : List ℕ) (old rows : List Row) (ps : List ℤ) (sta
 -- the whole table was read and taken: these are the draft and the rows that it makes
 pub record Run-taken (input : List ℕ) (old rows : List Row) (slices count : ℕ) (paths : List ℕ) (stations : ℕ) : Type 0 where
   pub numbers : List ℤ
+  pub short : length input ≤ 65536
   pub reached : Reached input old rows numbers stations []
   pub begun : Begun (slices-of numbers) numbers slices count paths 0
 

@@ -35,16 +35,25 @@ pub fn read_header(input: &[u8], fields: usize) -> Result<Draft, SurfaceFault>
 {
     let word = read_field(input, 0, 1, 1)?;
     if !word.field.is_word(b"mm") {
-        return Err(SurfaceFault::Text(TextFault::Malformed { record: 1, field: 1 }));
+        return Err(SurfaceFault::Text(TextFault::Malformed {
+            record: 1,
+            field: 1,
+        }));
     }
     let paths = fields - 1;
     if paths == 0 {
-        return Err(SurfaceFault::Counts { record: 1, field: 0 });
+        return Err(SurfaceFault::Counts {
+            record: 1,
+            field: 0,
+        });
     }
     let mut numbers = [0; MOST];
     read_numbers(input, word.next + 1, 1, 2, paths, &mut numbers)?;
     if paths > 8 {
-        return Err(SurfaceFault::Counts { record: 1, field: 0 });
+        return Err(SurfaceFault::Counts {
+            record: 1,
+            field: 0,
+        });
     }
     begin(&numbers, paths)
 }

@@ -14,7 +14,14 @@ use table::field::read_field;
 pub const MOST: usize = 9;
 
 // Reads the `count` fields from byte `at` on, the first of which has the place `first`, and holds the first nine of their numbers.
-pub fn read_numbers(input: &[u8], at: usize, record: u32, first: u32, count: usize, into: &mut [i32; MOST]) -> Result<(), TextFault>
+pub fn read_numbers(
+    input: &[u8],
+    at: usize,
+    record: u32,
+    first: u32,
+    count: usize,
+    into: &mut [i32; MOST],
+) -> Result<(), TextFault>
     requires { ⌜ count ≤ 100000 ⌝ ∗ ⌜ first ≤ 2 ⌝ }
     ensures { λ r. ⌜ ((cs : List Cell) (ys : List ℕ) → Line cs (drop at (now (input .entry))) ys → length cs ≡ count → Cases r (λ _. Taken cs (now (into .exit))) (λ e. Missed cs «record» first e)) ⌝ }
 {

@@ -17,7 +17,12 @@ use table::fault::TextFault;
 use table::line::read_line;
 
 // Takes the station of a row with so many numbers: the place, then the ordinates.
-fn take_station(draft: &mut Draft, rows: &mut [Row], numbers: &[i32; MOST], fields: usize) -> Result<(), SurfaceFault>
+fn take_station(
+    draft: &mut Draft,
+    rows: &mut [Row],
+    numbers: &[i32; MOST],
+    fields: usize,
+) -> Result<(), SurfaceFault>
     requires { ⌜ 1 ≤ fields ⌝ ∗ ⌜ fields ≤ 9 ⌝ }
     ensures verdict { λ r. ⌜ r ≡ station-judged (now (draft .entry) .layout .count) (now (draft .entry) .filled) (now (rows .entry)) (getD (now (numbers .entry)) 0 (pos 0)) (take (fields - 1) (drop 1 (now (numbers .entry)))) ⌝ }
     ensures layout { λ r. ⌜ now (draft .exit) .layout ≡ now (draft .entry) .layout ⌝ }
@@ -28,7 +33,14 @@ fn take_station(draft: &mut Draft, rows: &mut [Row], numbers: &[i32; MOST], fiel
 }
 
 // Takes the row that begins at byte `at` as the draft's next station, and says where the row after it begins.
-pub fn read_row(input: &[u8], at: usize, record: u32, fields: usize, draft: &mut Draft, rows: &mut [Row]) -> Result<usize, SurfaceFault>
+pub fn read_row(
+    input: &[u8],
+    at: usize,
+    record: u32,
+    fields: usize,
+    draft: &mut Draft,
+    rows: &mut [Row],
+) -> Result<usize, SurfaceFault>
     requires text { ⌜ at < length (now input) ⌝ ∗ ⌜ length (now input) ≤ 65536 ⌝ }
     requires place { ⌜ «record» ≡ now draft .filled + 2 ⌝ }
     requires fields { ⌜ fields ≡ now draft .layout .count + 1 ⌝ ∗ ⌜ fields ≤ 9 ⌝ }

@@ -19,7 +19,10 @@ pub fn read_run(input: &[u8], rows: &mut [Row; 64]) -> Result<Draft, SurfaceFaul
 {
     check_length(input)?;
     if input.len() == 0 {
-        return Err(SurfaceFault::Text(TextFault::Malformed { record: 1, field: 0 }));
+        return Err(SurfaceFault::Text(TextFault::Malformed {
+            record: 1,
+            field: 0,
+        }));
     }
     let header = read_line(input, 0, 1)?;
     let mut draft = read_header(input, header.fields)?;

@@ -20,11 +20,11 @@ ends-undone s w = record {
   slices = refl;
   stations = refl;
   place = λ k h.
-    let n : ℕ = s .stations - 1 in
-    let first : s .place (n - n) ≡ s .place 0 = ap (s .place) (omega arith) in
-    let back : s .place (n - (n - k)) ≡ s .place k = ap (s .place) (omega arith) in
-    let up = place-rises s w k n (omega arith) (omega (arith, w .some)) in
-    omega (arith, w .begins);
+      let n : ℕ = s .stations - 1 in
+      let first : s .place (n - n) ≡ s .place 0 = ap (s .place) (omega arith) in
+      let back : s .place (n - (n - k)) ≡ s .place k = ap (s .place) (omega arith) in
+      let up = place-rises s w k n (omega arith) (omega (arith, w .some)) in
+      omega (arith, w .begins);
   ordinate = λ j k h i. ap (s .ordinate j) (let e : s .stations - 1 - (s .stations - 1 - k) ≡ k = omega arith in e);
 }
 

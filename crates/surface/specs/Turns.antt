@@ -42,14 +42,14 @@ end-lawful s w = record {
   some = w .some;
   few = w .few;
   begins =
-    let e : s .place (s .stations - 1 - 0) ≡ s .place (s .stations - 1) = ap (s .place) (omega arith) in
-    omega arith;
+      let e : s .place (s .stations - 1 - 0) ≡ s .place (s .stations - 1) = ap (s .place) (omega arith) in
+      omega arith;
   rises = λ k h.
-    let m : ℕ = s .stations - 1 - (k + 1) in
-    let e : s .place (m + 1) ≡ s .place (s .stations - 1 - k) = ap (s .place) (omega arith) in
-    let r = w .rises m (omega arith) in
-    let t = place-rises s w (s .stations - 1 - k) (s .stations - 1) (omega arith) (omega (arith, w .some)) in
-    omega arith;
+      let m : ℕ = s .stations - 1 - (k + 1) in
+      let e : s .place (m + 1) ≡ s .place (s .stations - 1 - k) = ap (s .place) (omega arith) in
+      let r = w .rises m (omega arith) in
+      let t = place-rises s w (s .stations - 1 - k) (s .stations - 1) (omega arith) (omega (arith, w .some)) in
+      omega arith;
   ends = λ k h. omega (arith, w .ends (s .stations - 1) (omega arith));
   within = λ j k h i. w .within j (s .stations - 1 - k) h (omega arith);
 }

@@ -2,8 +2,8 @@
 ghost use mathlib.Core.Path.{_≡_};
 ghost use Rattle.surface.specs.Shape.{end-for-end};
 ghost use Rattle.surface.specs.Turns.{end-lawful};
-use crate::fault::SurfaceFault;
 use crate::Surface;
+use crate::fault::SurfaceFault;
 
 // Stations in reverse, measured from the last place.
 #[derive(Drop)]

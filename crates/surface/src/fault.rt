@@ -40,11 +40,36 @@ impl SurfaceFault {
     {
         match self {
             SurfaceFault::Text(f) => f.report(),
-            SurfaceFault::Counts { record, field } => Report { number: 2, layer: Layer::Surface, record, field },
-            SurfaceFault::Place { record, field } => Report { number: 3, layer: Layer::Surface, record, field },
-            SurfaceFault::Ordinate { record, field } => Report { number: 4, layer: Layer::Surface, record, field },
-            SurfaceFault::Short { record } => Report { number: 9, layer: Layer::Surface, record, field: 0 },
-            SurfaceFault::Absent => Report { number: 10, layer: Layer::Surface, record: 0, field: 0 },
+            SurfaceFault::Counts { record, field } => Report {
+                number: 2,
+                layer: Layer::Surface,
+                record,
+                field,
+            },
+            SurfaceFault::Place { record, field } => Report {
+                number: 3,
+                layer: Layer::Surface,
+                record,
+                field,
+            },
+            SurfaceFault::Ordinate { record, field } => Report {
+                number: 4,
+                layer: Layer::Surface,
+                record,
+                field,
+            },
+            SurfaceFault::Short { record } => Report {
+                number: 9,
+                layer: Layer::Surface,
+                record,
+                field: 0,
+            },
+            SurfaceFault::Absent => Report {
+                number: 10,
+                layer: Layer::Surface,
+                record: 0,
+                field: 0,
+            },
         }
     }
 }

@@ -2,8 +2,8 @@
 ghost use mathlib.Core.Path.{_≡_};
 ghost use Rattle.surface.specs.Shape.{opposite};
 ghost use Rattle.surface.specs.Turns.{opposite-lawful};
-use crate::fault::SurfaceFault;
 use crate::Surface;
+use crate::fault::SurfaceFault;
 
 // Every ordinate negated.
 #[derive(Drop)]

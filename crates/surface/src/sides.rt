@@ -2,8 +2,8 @@
 ghost use mathlib.Core.Path.{_≡_};
 ghost use Rattle.surface.specs.Shape.{side-for-side};
 ghost use Rattle.surface.specs.Turns.{side-lawful};
-use crate::fault::SurfaceFault;
 use crate::Surface;
+use crate::fault::SurfaceFault;
 
 // Slice j shows slice n - 1 - j of the surface below.
 #[derive(Drop)]

@@ -9,5 +9,9 @@ pub fn place_fits(k: usize, before: i64, place: i32) -> bool
     if place < 0 || place >= 200_000 {
         return false;
     }
-    if k == 0 { place as u32 == 0 } else { before < place as i64 }
+    if k == 0 {
+        place as u32 == 0
+    } else {
+        before < place as i64
+    }
 }

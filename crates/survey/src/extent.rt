@@ -3,9 +3,9 @@ ghost use Prim.Native.Nat.{ℕ, _+_, _≤_, _<_};
 ghost use mathlib.Core.Path.{_≡_};
 ghost use lib.IntN.{ℤ};
 ghost use Rattle.survey.specs.Extents.{Both, Extends, Spans, Station, On};
+use surface::Surface;
 use surface::questions::ordinate_of;
 use surface::questions::place_of;
-use surface::Surface;
 
 // The least and the greatest of some ordinates.
 #[derive(Clone, Copy, PartialEq, Eq, Debug)]
@@ -29,14 +29,20 @@ impl Range {
     fn of(v: i32) -> Range
         ensures { λ r. ⌜ r .least ≡ v ⌝ ∗ ⌜ r .greatest ≡ v ⌝ }
     {
-        Range { least: v, greatest: v }
+        Range {
+            least: v,
+            greatest: v,
+        }
     }
 
     // The range of this one's ordinates and another's.
     fn with(self, other: Range) -> Range
         ensures { λ r. ⌜ Both self other r ⌝ }
     {
-        Range { least: self.least.min(other.least), greatest: self.greatest.max(other.greatest) }
+        Range {
+            least: self.least.min(other.least),
+            greatest: self.greatest.max(other.greatest),
+        }
     }
 }
 
@@ -69,5 +75,10 @@ pub fn extent_of<S: Surface>(surface: &S) -> Extent
 {
     let slices = surface.slices();
     let stations = surface.stations();
-    Extent { slices, stations, last_place: place_of(surface, stations - 1), ordinates: whole_range(surface) }
+    Extent {
+        slices,
+        stations,
+        last_place: place_of(surface, stations - 1),
+        ordinates: whole_range(surface),
+    }
 }

@@ -32,7 +32,10 @@ fn sealed_extent(draft: Draft, rows: &[Row]) -> Result<Extent, SurfaceFault>
 pub fn survey_run(input: &[u8]) -> Result<Extent, SurfaceFault>
     ensures { λ r. ⌜ Cases r (Surveyed (now (input .entry))) (Survey-refused (now (input .entry))) ⌝ }
 {
-    let mut rows = [Row { place: 0, ordinates: [0; 8] }; 64];
+    let mut rows = [Row {
+        place: 0,
+        ordinates: [0; 8],
+    }; 64];
     let draft = read_run(input, &mut rows)?;
     sealed_extent(draft, &rows)
 }

@@ -41,7 +41,10 @@ fn extent_lines(heap: Global, extent: Extent) -> Result<String, AllocError>
     let last = extent.last_place;
     let least = extent.ordinates.least;
     let greatest = extent.ordinates.greatest;
-    format!(heap, "slices,stations,last place,least,greatest\n{slices},{stations},{last},{least},{greatest}\n")
+    format!(
+        heap,
+        "slices,stations,last place,least,greatest\n{slices},{stations},{last},{least},{greatest}\n"
+    )
 }
 
 // What `sheet` prints for a table.

@@ -43,19 +43,22 @@ loop-i-again c =
     let v = c .in-Continue-value .value in
     let w = c .in-Continue-value .ensures tt in
     let long : length (c .if-i-lt-MOST .into) ≡ 9 = omega arith in
-    let step : c .in-Continue-read .read .next < length (c .args .input .now) → c .saturating-add-p .result ≡ c .in-Continue-read .read .next + 1 = λ h. omega arith in
-    (long, λ cs ys l e.
-      let g = c .loop-i .inv .1 cs ys l e in
-      let low : c .loop-i .i < length cs = omega arith in
-      let held : Held (g .numbers ++ (v ∷ [])) (c .if-i-lt-MOST .into) =
+    let step : c .in-Continue-read .read .next < length (c .args .input .now) → c .saturating-add-p .result ≡ c .in-Continue-read .read .next + 1 = λ h. omega arith in (
+      long,
+      λ cs ys l e.
+          let g = c .loop-i .inv .1 cs ys l e in
+          let low : c .loop-i .i < length cs = omega arith in
+          let held : Held (g .numbers ++ (v ∷ [])) (c .if-i-lt-MOST .into) =
           elim (c .if-i-lt-MOST .came) [
-            then-i-lt-MOST a ↦ (
-              let fits : SFits w32 v = search needs in
-              let same : toZ w32 (ofZ w32 v) ≡ v = omega (arith, ints) in
-              let is : c .if-i-lt-MOST .into ≡ set (c .loop-i .into) (c .loop-i .i) v = a .into-is ∙ ap (set (c .loop-i .into) (c .loop-i .i)) same in
-              subst (λ (l : List ℤ). Held (g .numbers ++ (v ∷ [])) l) (sym is) (held-set cs ys (c .args .input .now) (c .loop-i .i) (c .loop-i .p) (c .loop-i .into) g low v (c .loop-i .inv .0) (a .if-i-lt-MOST .taken)))
-          | else-i-lt-MOST a ↦ subst (λ (l : List ℤ). Held (g .numbers ++ (v ∷ [])) l) (sym (a .into-is)) (held-past cs ys (c .args .input .now) (c .loop-i .i) (c .loop-i .p) (c .loop-i .into) g low v (a .if-i-lt-MOST .left)) ] in
-      progress-more cs ys (c .args .input .now) (c .loop-i .i) (c .loop-i .p) (c .loop-i .into) g low v (c .saturating-add-p .result) (c .if-i-lt-MOST .into) k w step held)
+            | then-i-lt-MOST a ↦ (
+                let fits : SFits w32 v = search needs in
+                let same : toZ w32 (ofZ w32 v) ≡ v = omega (arith, ints) in
+                let is : c .if-i-lt-MOST .into ≡ set (c .loop-i .into) (c .loop-i .i) v = a .into-is ∙ ap (set (c .loop-i .into) (c .loop-i .i)) same in
+                subst (λ (l : List ℤ). Held (g .numbers ++ (v ∷ [])) l) (sym is) (held-set cs ys (c .args .input .now) (c .loop-i .i) (c .loop-i .p) (c .loop-i .into) g low v (c .loop-i .inv .0) (a .if-i-lt-MOST .taken)))
+            | else-i-lt-MOST a ↦ subst (λ (l : List ℤ). Held (g .numbers ++ (v ∷ [])) l) (sym (a .into-is)) (held-past cs ys (c .args .input .now) (c .loop-i .i) (c .loop-i .p) (c .loop-i .into) g low v (a .if-i-lt-MOST .left))
+          ] in
+          progress-more cs ys (c .args .input .now) (c .loop-i .i) (c .loop-i .p) (c .loop-i .into) g low v (c .saturating-add-p .result) (c .if-i-lt-MOST .into) k w step held,
+    )
 
 pub returns : need.returns
 returns c = λ cs ys l h. progress-all cs ys (c .args .input .now) (c .loop-i .i) (c .loop-i .p) (c .loop-i .into) (omega arith) (c .loop-i .inv .1 cs ys l h)

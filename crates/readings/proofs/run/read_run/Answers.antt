@@ -55,4 +55,4 @@ pub loop-at-again : need.loop-at-again
 loop-at-again c = (omega arith, goes-on _ _ _ _ _ _ _ (c .loop-at .inv .1) _ _ _ (c .loop-at-test .taken) (c .in-Continue-at .ensures tt .row) (c .in-Continue-at .ensures tt .layout) (c .in-Continue-at .ensures tt .filled))
 
 pub returns : need.returns
-returns c = ends _ _ _ _ _ _ _ (c .loop-at .inv .1) (c .loop-at-test .left)
+returns c = ends _ _ _ _ _ _ _ (c .loop-at .inv .1) (c .in-Continue-header .ensures tt .short) (c .loop-at-test .left)

@@ -24,8 +24,8 @@ returns c =
     let f : toZ w32 (ofZ w32 (c .args .left)) ≡ c .args .left = omega (arith, ints) in
     let g : toZ w32 (ofZ w32 (c .args .right)) ≡ c .args .right = omega (arith, ints) in
     let e = c .in-Continue-check-edge .ensures tt
-        ∙ ap (λ (k : ℤ). edge-judged k (toZ w32 (ofZ w32 (c .args .left))) (toZ w32 (ofZ w32 (c .args .right))) ss) n
-        ∙ ap (λ (k : ℤ). edge-judged (c .args .slices) k (toZ w32 (ofZ w32 (c .args .right))) ss) f
-        ∙ ap (λ (k : ℤ). edge-judged (c .args .slices) (c .args .left) k ss) g in
+    ∙ ap (λ (k : ℤ). edge-judged k (toZ w32 (ofZ w32 (c .args .left))) (toZ w32 (ofZ w32 (c .args .right))) ss) n
+    ∙ ap (λ (k : ℤ). edge-judged (c .args .slices) k (toZ w32 (ofZ w32 (c .args .right))) ss) f
+    ∙ ap (λ (k : ℤ). edge-judged (c .args .slices) (c .args .left) k ss) g in
     let s = slices (c .args .slices) (c .args .left) (c .args .right) ss _ e .0 in
     answered _ _ _ _ e (ap (λ (k : ℤ). pos (natAbs k)) n ∙ s, f, g, refl)

@@ -1,0 +1,5 @@
+pub mod Chains
+pub mod Numbers
+pub mod One
+pub mod Records
+pub mod Stages
