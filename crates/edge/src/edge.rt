@@ -92,12 +92,8 @@ pub impl<'a> Surface for Edge<'a> as EdgeSurface {
         if j >= self.slices() || k >= self.stations() {
             return Err(SurfaceFault::Absent);
         }
-        Ok(mix_edges(
-            self.line[k].ordinate,
-            self.left,
-            self.right,
-            self.slices(),
-            j,
-        ))
+        let n = self.slices();
+        let v = self.line[k].ordinate;
+        Ok(mix_edges(v, self.left, self.right, n, j))
     }
 }

@@ -1,9 +1,19 @@
 // A surface with every ordinate negated, which serves least effects.
 ghost use mathlib.Core.Path.{_≡_};
+ghost use Prim.Native.Nat.{_≤_};
+ghost use lib.IntN.{negℤ, natAbs};
 ghost use Rattle.surface.specs.Shape.{opposite};
 ghost use Rattle.surface.specs.Turns.{opposite-lawful};
 use crate::Surface;
 use crate::fault::SurfaceFault;
+
+// The ordinate with the other sign.
+fn negated(v: i32) -> i32
+    requires { ⌜ natAbs v ≤ 100000 ⌝ }
+    ensures { λ r. ⌜ r ≡ negℤ v ⌝ }
+{
+    0 - v
+}
 
 // Every ordinate negated.
 #[derive(Drop)]
@@ -38,6 +48,6 @@ pub impl<S: Surface> Surface for Opposite<S> as OppositeSurface {
 
     fn ordinate(&self, j: usize, k: usize) -> Result<i32, SurfaceFault> {
         let v = self.below.ordinate(j, k)?;
-        Ok(-v)
+        Ok(negated(v))
     }
 }

@@ -1,0 +1,5 @@
+pub mod IntLaws
+pub mod Ring
+pub mod Frac
+pub mod Round
+pub mod Sums

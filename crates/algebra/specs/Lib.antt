@@ -1,0 +1,2 @@
+pub mod Frac
+pub mod Sums

@@ -1,0 +1,10 @@
+pub mod Segments
+pub mod Areas
+pub mod Cells
+pub mod Values
+pub mod Tandems
+pub mod Exists
+pub mod Agreeing
+pub mod Unique
+pub mod Turned
+pub mod Lanes

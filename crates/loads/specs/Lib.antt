@@ -1,0 +1,4 @@
+pub mod Held
+pub mod Peaks
+pub mod Grids
+pub mod Filled
