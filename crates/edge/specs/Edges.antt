@@ -1,7 +1,7 @@
 -- The surface of one line of stations, shared out between two edges, and why it is lawful.
 use mathlib.Core.Path.{_≡_}
 use mathlib.Core.Bool.{true}
-use mathlib.Core.List.{List}
+use mathlib.Core.List.{List, [], _∷_}
 use Prim.Native.Nat.{ℕ, _+_, _-_, _*_, _≤_, _<_}
 use native.Mathlib.Omega.{arith}
 use lib.IntN.{ℤ, pos, _+ℤ_, _*ℤ_, natAbs}
@@ -32,6 +32,10 @@ edge-shape n f g ss = record {
   place = λ k. natAbs (place-at ss k);
   ordinate = λ j k. edge-mix (ordinate-at ss k) f g n j;
 }
+
+-- two stations 1 mm apart, with the ordinate 0
+abbrev pub level-line : List Station
+level-line = record { place = pos 0; ordinate = pos 0 } ∷ record { place = pos 1; ordinate = pos 0 } ∷ []
 
 -- n slices, and a line whose places begin at 0, rise and stay below 200,000
 abbrev pub Lined : ℕ → List Station → Type 0

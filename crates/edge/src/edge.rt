@@ -1,7 +1,7 @@
 // An edge surface and its four questions.
 ghost use mathlib.Core.Path.{_≡_};
 ghost use lib.IntN.{pos};
-ghost use Rattle.edge.specs.Edges.{Lined, Natural, Leaning, edge-shape, edge-lawful};
+ghost use Rattle.edge.specs.Edges.{Lined, Natural, Leaning, level-line, edge-shape, edge-lawful};
 ghost use Rattle.edge.specs.Judged.{edge-judged};
 ghost use Rattle.surface.specs.Verdict.{Answered};
 use crate::checks::check_edge;
@@ -38,6 +38,7 @@ impl<'a> Edge<'a> {
     pub fn level() -> Edge<'a>
         ensures slices { λ r. ⌜ r .slices ≡ 60 ⌝ }
         ensures factors { λ r. ⌜ r .left ≡ pos 0 ⌝ ∗ ⌜ r .right ≡ pos 0 ⌝ }
+        ensures line { λ r. ⌜ r .line .now ≡ level-line ⌝ }
     {
         Edge {
             slices: 60,

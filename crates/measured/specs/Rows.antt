@@ -1,9 +1,9 @@
 -- The stations that rows hold, and the surface that they make.
 use Prim.Native.Nat.{ℕ, _+_, _≤_, _<_}
 use mathlib.Core.Path.{_≡_}
-use mathlib.Core.List.{List, []}
+use mathlib.Core.List.{List, [], _∷_}
 use lib.IntN.{ℤ, pos, natAbs}
-use lib.ListN.{getD, length}
+use lib.ListN.{getD, length, replicate}
 use Rattle.surface.specs.Shape.{Shape}
 use Rattle.measured.specs.Spread.{spread}
 use Rattle.measured.specs.declared.row.Row.{Row}
@@ -35,3 +35,7 @@ rows-shape n m ps t rs = record {
   place = place-of rs;
   ordinate = λ j k. spread m ps (ordinates-of rs k) j;
 }
+
+-- two stations 1 mm apart, with every ordinate 0
+abbrev pub level-rows : List Row
+level-rows = record { place = 0; ordinates = replicate 8 (pos 0) } ∷ record { place = 1; ordinates = replicate 8 (pos 0) } ∷ []

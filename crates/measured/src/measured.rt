@@ -2,11 +2,11 @@
 ghost use mathlib.Core.Bool.{cond};
 ghost use mathlib.Core.Path.{_≡_};
 ghost use Prim.Native.Nat.{_+_, _≤_};
-ghost use lib.ListN.{set};
+ghost use lib.ListN.{replicate, set};
 ghost use Rattle.std.specs.Results.{isOk};
 ghost use Rattle.measured.specs.Judged.{Begun, header-judged, seal-judged, row-of, station-judged};
 ghost use Rattle.measured.specs.Mixes.{rows-lawful};
-ghost use Rattle.measured.specs.Rows.{Filled, Ranged, rows-shape};
+ghost use Rattle.measured.specs.Rows.{Filled, Ranged, level-rows, rows-shape};
 ghost use Rattle.surface.specs.Verdict.{Granted, Settled};
 use crate::checks::check_ordinates;
 use crate::checks::check_seal;
@@ -41,7 +41,8 @@ static LEVEL: [Row; 2] = [
 impl<'a> Measured<'a> {
     // The built-in surface, level at 0, which sealing fills.
     pub fn level() -> Measured<'a>
-        ensures { λ r. ⌜ r .stations ≡ 2 ⌝ ∗ ⌜ r .layout .slices ≡ 60 ⌝ }
+        ensures layout { λ r. ⌜ r .layout .slices ≡ 60 ⌝ ∗ ⌜ r .layout .count ≡ 1 ⌝ ∗ ⌜ r .layout .paths ≡ replicate 8 0 ⌝ }
+        ensures stations { λ r. ⌜ r .stations ≡ 2 ⌝ ∗ ⌜ r .rows .now ≡ level-rows ⌝ }
     {
         let layout = Layout {
             slices: 60,
