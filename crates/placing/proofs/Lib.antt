@@ -1,0 +1,10 @@
+pub mod Sets
+pub mod Owners
+pub mod Steps
+pub mod Chosen
+pub mod Readings
+pub mod Rooms
+pub mod Mirrors
+pub mod Totals
+pub mod Loaded
+pub mod LoadsTurned
