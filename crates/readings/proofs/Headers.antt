@@ -17,6 +17,7 @@ use Rattle.std.proofs.shelf.Lists.{ext-getD, getD-take, length-take-le, length-
 use Rattle.std.proofs.shelf.Tests.{cases-lt, cond-true, lt-ltb}
 use Rattle.measured.specs.Judged.{Begun, header-judged, path-judged}
 use Rattle.measured.specs.declared.measured.Draft.{Draft}
+use Rattle.surface.specs.Turns.{abs-neg}
 use Rattle.surface.specs.Verdict.{Granted, each-judged}
 use Rattle.surface.specs.declared.fault.SurfaceFault.{SurfaceFault}
 use Rattle.surface.specs.declared.fault.SurfaceFault.the-variants.{Text, Counts}
@@ -35,14 +36,10 @@ use Rattle.readings.proofs.Progress.{first-read, written-length}
 
 -- ---- numbers
 
-abs-neg : (n : ℕ) → natAbs (negℤ (pos n)) ≡ n
-abs-neg zero = refl
-abs-neg (suc n) = refl
-
 -- a number of seven digits is below ten million
 writes-small : {bs : List ℕ} {v : ℤ} → Writes bs v → natAbs v < 10000000
 writes-small (unsigned n d e) = omega (arith, numeral-lt d, ap natAbs e)
-writes-small (minus ds n b d e) = omega (arith, numeral-lt d, ap natAbs e, abs-neg n)
+writes-small (minus ds n b d e) = omega (arith, numeral-lt d, ap natAbs e, abs-neg (pos n))
 
 written-small : (cs : List Cell) (vs : List ℤ) → Written cs vs → (k : ℕ) → natAbs (getD vs k (pos 0)) < 10000000
 written-small [] [] w k = omega arith

@@ -6,15 +6,12 @@ use native.Mathlib.Nat.{mul-le-mul, mul-le-mul-right, div-lt-iff-lt-mul, mul-add
 use borrow.Author.Differences.{ints}
 use lib.IntN.{ℤ, pos, negsuc, _+ℤ_, _*ℤ_, negℤ, natAbs}
 use Rattle.std.specs.Numbers.{divEuclid}
-
-abs-neg : (n : ℕ) → natAbs (negℤ (pos n)) ≡ n
-abs-neg zero = refl
-abs-neg (suc n) = refl
+use Rattle.surface.specs.Turns.{abs-neg}
 
 pub abs-mul : (a b : ℤ) → natAbs (a *ℤ b) ≡ natAbs a * natAbs b
 abs-mul (pos a) (pos b) = refl
-abs-mul (pos a) (negsuc b) = abs-neg (a * suc b)
-abs-mul (negsuc a) (pos b) = abs-neg (suc a * b)
+abs-mul (pos a) (negsuc b) = abs-neg (pos (a * suc b))
+abs-mul (negsuc a) (pos b) = abs-neg (pos (suc a * b))
 abs-mul (negsuc a) (negsuc b) = refl
 
 pub times-within : (v : ℤ) (n b : ℕ) → natAbs v ≤ b → natAbs (v *ℤ pos n) ≤ b * n
