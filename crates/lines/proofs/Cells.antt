@@ -56,7 +56,7 @@ module _ (xv tv yv wv : ℤ) (D E b q₁ Q₁ : ℕ) (δ : ℤ) where
       refl)
 
 -- ---- a place at an end of its segment
-gap : (x t b : ℕ) → x ≤ t → b * (t - x) + x * b ≡ t * b
+pub gap : (x t b : ℕ) → x ≤ t → b * (t - x) + x * b ≡ t * b
 gap x t b h = let e : t ≡ x + (t - x) = omega arith in omega (arith, ap (λ i. i * b) e)
 
 pub wide : (x t b : ℕ) → 0 < b → x < t → max 1 (b * (t - x)) ≡ b * (t - x)

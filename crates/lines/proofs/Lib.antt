@@ -8,3 +8,4 @@ pub mod Agreeing
 pub mod Unique
 pub mod Turned
 pub mod Lanes
+pub mod Bounds

@@ -1,0 +1,2 @@
+-- The trial decks.
+pub mod Decks

@@ -1,0 +1,4 @@
+pub mod Asked
+pub mod Ranges
+pub mod Replayed
+pub mod Runs
