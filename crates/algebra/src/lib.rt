@@ -1,4 +1,5 @@
 // Fractions compared by cross-multiplying, rounding up, and sums of bounded parts: theory alone.
+#![tactic(auto)]
 
 ghost use Rattle.algebra.specs.Frac.{Trans, Adds, Scales, Ceil};
 ghost use Rattle.algebra.specs.Sums.{TotalBound, TotalNear};

@@ -1,4 +1,5 @@
 // The trial decks, as facts of the definitions: theory alone.
+#![tactic(auto)]
 
 ghost use Rattle.decks.specs.Decks.{Decks, Printed, Wide};
 

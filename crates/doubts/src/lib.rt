@@ -1,4 +1,5 @@
 // What wrong definitions under the promise would let pass, shut out by facts of the right ones: theory alone.
+#![tactic(auto)]
 
 ghost use Rattle.doubts.specs.Allowance.{AllowanceStands};
 ghost use Rattle.doubts.specs.Causes.{CausesStand};

@@ -1,4 +1,6 @@
 // Runs the script of a whole job from standard input, and prints what each record of it answers.
+#![tactic(auto)]
+
 use scripted::script::run_script;
 use std::io::Read;
 use table::line::LONGEST;

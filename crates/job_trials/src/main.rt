@@ -1,4 +1,6 @@
 // Runs the stored scripts one after the other, through what `job` runs.
+#![tactic(auto)]
+
 use scripted::script::run_script;
 use std::fs;
 

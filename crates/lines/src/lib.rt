@@ -1,4 +1,5 @@
 // What A of a slice and T of a lane start are, over the meaning of any surface: theory alone.
+#![tactic(auto)]
 
 ghost use Rattle.lines.specs.Facts.{AreasStand, TandemUnique, TandemExists, TandemPositive, Turning, Decks};
 

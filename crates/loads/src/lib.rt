@@ -1,4 +1,5 @@
 // A of every slice and T of every lane start of a carriageway, over any surface.
+#![tactic(auto)]
 
 mod areas;
 pub mod grid;

@@ -1,4 +1,5 @@
 // Load Model 1 as tables: lanes of a carriageway, owners of slices, loads and factors.
+#![tactic(auto)]
 
 pub mod facts;
 pub mod lanes;

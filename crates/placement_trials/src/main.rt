@@ -1,4 +1,5 @@
 // Runs the placement on parts made by hand and on a level deck, and prints what wins.
+#![tactic(auto)]
 
 use crate::hand_made::Row;
 use crate::trial::trial;

@@ -1,4 +1,6 @@
 // A run's table is rated: its surface, the figures of a job over it, and the lines that tell them.
+#![tactic(auto)]
+
 pub mod lines;
 pub mod rate;
 #[cfg(test)]

@@ -1,4 +1,6 @@
 // Runs the stored tables through what `sheet` prints, one after the other.
+#![tactic(auto)]
+
 use rated::lines::sheet_text;
 use std::fs;
 

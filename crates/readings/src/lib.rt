@@ -1,4 +1,6 @@
 // The readings of a lorry run: a table becomes a draft and its rows, record by record.
+#![tactic(auto)]
+
 mod header;
 mod numbers;
 mod rows;

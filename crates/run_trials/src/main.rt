@@ -1,4 +1,6 @@
 // Runs whole lists of calls through a job over the trial line, and prints what was answered to each.
+#![tactic(auto)]
+
 use crate::lists::{ALL_CALLS, FIGURE_AND_DRAWING, LEFT_OPEN};
 use crate::told::print_run;
 use card::answers::Answer;

@@ -1,4 +1,6 @@
 // A script of a whole job: its surface, how that is turned, the opening and the calls.
+#![tactic(auto)]
+
 mod calls;
 mod entries;
 pub mod fault;

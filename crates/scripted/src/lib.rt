@@ -1,4 +1,6 @@
 // A script is run: its surface is made and turned, a job is opened over it, and its calls are made and told.
+#![tactic(auto)]
+
 mod answers;
 pub mod ran;
 pub mod script;

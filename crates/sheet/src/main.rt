@@ -1,4 +1,6 @@
 // Reads a run's table from standard input, and prints what surface it gave, or why it is refused.
+#![tactic(auto)]
+
 use std::io::Read;
 use survey::text::sheet_text;
 use table::line::LONGEST;

@@ -1,4 +1,5 @@
 // What a rating promises, in the subject's words, and what follows from it: theory alone.
+#![tactic(auto)]
 
 ghost use Rattle.statement.specs.Facts.{Bounded, Shown, Near, OwnersTell, WinnerOnce};
 ghost use Rattle.statement.specs.Permits.{EveryOrder, EveryPlace, NoTandem, EveryLoading};

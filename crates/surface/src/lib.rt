@@ -1,4 +1,6 @@
 // Influence surfaces: what one means, the four questions that every one answers, and the turned ones.
+#![tactic(auto)]
+
 ghost use Rattle.std.specs.Prelude.{◌≡◌, ℕ, ◌<◌};
 ghost use Rattle.surface.specs.Shape.{Shape, Lawful};
 ghost use Rattle.surface.specs.Asked.{Asked};

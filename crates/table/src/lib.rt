@@ -1,4 +1,6 @@
 // Tables of comma-separated fields: records, fields and whole numbers as parts of the input, none of it copied.
+#![tactic(auto)]
+
 pub mod fault;
 pub mod field;
 pub mod line;

@@ -1,4 +1,6 @@
 // Runs the stored tables through what `sheet` prints, one after the other.
+#![tactic(auto)]
+
 use std::fs;
 use survey::text::sheet_text;
 

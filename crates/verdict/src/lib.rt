@@ -1,4 +1,6 @@
 // A table has one verdict.
+#![tactic(auto)]
+
 ghost use Rattle.verdict.specs.Verdicts.{OneVerdict};
 
 // Holds nothing but its promise: a table is taken or refused, never both, and in one way only.

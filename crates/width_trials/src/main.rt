@@ -1,4 +1,6 @@
 // Rates the trial line at every width, with equal, one-sided and crossing edge factors.
+#![tactic(auto)]
+
 use crate::rows::{print_drawing, print_figure};
 use edge::edge::Edge;
 use edge::station::Station;

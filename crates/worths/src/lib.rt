@@ -1,4 +1,5 @@
 // Worths by which placements are compared: a rounded effect alone, or a rounded effect and then a kerb count.
+#![tactic(auto)]
 
 ghost use Rattle.std.specs.Prelude.{◌≡◌, ℕ, ◌+◌, ◌^◌, ◌<◌};
 ghost use Rattle.placing.specs.Kind.{Kind, Laws, Counts};

@@ -26,16 +26,16 @@ module _ (f g l r : ℤ) (n j : ℕ) (h : j < n) (few : n ≤ 300) (hf : nat_abs
       let e : to_z w64 (of_z w64 (to_z w64 (of_z w64 l) +ℤ to_z w64 (of_z w64 r))) ≡ l +ℤ r = omega (arith, ints) in
       e ∙ ap (λ (z : ℤ). z +ℤ r) left_is ∙ ap (λ (z : ℤ). f *ℤ pos (2 * n - 2 * j - 1) +ℤ z) right_is
 
-pub overflow-add-from-left : goal.overflow-add-from-left
-overflow-add-from-left c =
+pub overflow_add-from_left : goal.overflow_add-from_left
+overflow_add-from_left c =
     let p = c.requires in
-    let s = small c.args.f c.args.g c.share-from-left.result c.share-from-right.result c.args.n c.args.j p.sized.0 p.sized.1 p.within.1.0 p.within.1.1 c.share-from-left.ensures c.share-from-right.ensures in
+    let s = small c.args.f c.args.g c.share-from_left.result c.share-from_right.result c.args.n c.args.j p.sized.0 p.sized.1 p.within.1.0 p.within.1.1 c.share-from_left.ensures c.share-from_right.ensures in
     omega (arith, ints)
 
-pub scaled-down-requires : goal.scaled-down-requires
-scaled-down-requires c =
+pub scaled_down-requires : goal.scaled_down-requires
+scaled_down-requires c =
     let p = c.requires in
-    let e = sum_is c.args.f c.args.g c.share-from-left.result c.share-from-right.result c.args.n c.args.j p.sized.0 p.sized.1 p.within.1.0 p.within.1.1 c.share-from-left.ensures c.share-from-right.ensures in
+    let e = sum_is c.args.f c.args.g c.share-from_left.result c.share-from_right.result c.args.n c.args.j p.sized.0 p.sized.1 p.within.1.0 p.within.1.1 c.share-from_left.ensures c.share-from_right.ensures in
     let v : to_z w32 (of_z w32 c.args.v) ≡ c.args.v = omega (arith, ints) in
     let w = shares_within c.args.f c.args.g c.args.n c.args.j p.sized.0 p.within.1.0 p.within.1.1 in
     (omega (arith, ap nat_abs v), (omega (arith, ap nat_abs e), (omega arith, omega arith)))
@@ -43,8 +43,8 @@ scaled-down-requires c =
 pub returns : goal.returns
 returns c =
     let p = c.requires in
-    let e = sum_is c.args.f c.args.g c.share-from-left.result c.share-from-right.result c.args.n c.args.j p.sized.0 p.sized.1 p.within.1.0 p.within.1.1 c.share-from-left.ensures c.share-from-right.ensures in
+    let e = sum_is c.args.f c.args.g c.share-from_left.result c.share-from_right.result c.args.n c.args.j p.sized.0 p.sized.1 p.within.1.0 p.within.1.1 c.share-from_left.ensures c.share-from_right.ensures in
     let v : to_z w32 (of_z w32 c.args.v) ≡ c.args.v = omega (arith, ints) in
-    let r : to_z w32 (of_z w32 c.scaled-down.result) ≡ c.scaled-down.result = omega (arith, ints) in
-    let q = simp v at c.scaled-down.ensures in
+    let r : to_z w32 (of_z w32 c.scaled_down.result) ≡ c.scaled_down.result = omega (arith, ints) in
+    let q = simp v at c.scaled_down.ensures in
     r ∙ q ∙ ap (λ (z : ℤ). int_div_euclid (c.args.v *ℤ z) (pos (2000 * c.args.n))) e

@@ -5,10 +5,10 @@ use Rattle.figures.proofs.Tested.{fits, reach, each_low}
 use Rattle.figures.proofs.Listing.{areas_listed, tandems_listed, lists_low, figured}
 use Rattle.figures.proofs.figures.rate.Goals as goal
 
-pub place-listed-won-requires : goal.place-listed-won-requires
-place-listed-won-requires g c =
+pub place_listed-won-requires : goal.place_listed-won-requires
+place_listed-won-requires g c =
     let s = setting (g.S.Surface.shape c.args.surface.now) c.args.kerbs c.args.factors c.args.kind in
-    let f = c.fill-loads in
+    let f = c.fill_loads in
     let areas = areas_listed s c.args.areas.now f.new.areas f.auto.areas f.ensures.areas in
     let tandems = tandems_listed s c.args.tandems.now f.new.tandems f.auto.tandems f.ensures.tandems in
     let fit = fits _ _ c.requires.fit in
@@ -17,7 +17,7 @@ place-listed-won-requires g c =
       wide = fit.wide;
       low = lists_low s (g.S.Surface.lawful c.args.surface.now) fit (each_low c.args.factors c.requires.bounds) areas tandems;
       areas-long = omega (arith, long.areas, f.auto.areas);
-      tandems-long = omega (arith, long.tandems, f.auto.tandems);
+      tandems_long = omega (arith, long.tandems, f.auto.tandems);
       bests-long = long.bests;
       owners-long = long.owners;
     }
@@ -25,10 +25,10 @@ place-listed-won-requires g c =
 pub returns : goal.returns
 returns g c =
     let s = setting (g.S.Surface.shape c.args.surface.now) c.args.kerbs c.args.factors c.args.kind in
-    let f = c.fill-loads in
+    let f = c.fill_loads in
     let areas = areas_listed s c.args.areas.now f.new.areas f.auto.areas f.ensures.areas in
     let tandems = tandems_listed s c.args.tandems.now f.new.tandems f.auto.tandems f.ensures.tandems in
-    let p = c.place-listed-won.ensures in
+    let p = c.place_listed-won.ensures in
     record {
       areas = areas;
       tandems = tandems;

@@ -14,11 +14,11 @@ rated_over {W} {K} {made} {l} {k} {m} {n} {o} {p} {w} owners e f g h =
 
 pub returns : goal.returns
 returns g c =
-    let h = c.place-loads.ensures in
+    let h = c.place_loads.ensures in
     let made = c.new-loads.ensures in
     let slices = ap (λ (l : Loads). l.slices) made.loads in
-    let bests = c.place-loads.new.bests in
-    let owners = c.place-loads.new.owners in
+    let bests = c.place_loads.new.bests in
+    let owners = c.place_loads.new.owners in
     record {
       filled = subst (λ l. Filled g.W.Worth.kind (loaded g.W.Worth.made l) 0 bests) made.loads h.filled;
       bests_beyond = subst (λ n. drop (24 * (n + 1)) bests ≡ drop (24 * (n + 1)) c.args.bests.now) slices h.bests_beyond;

@@ -6,8 +6,8 @@ use Rattle.loaded.proofs.making.lanes_of.Goals as goal
 
 pub returns : goal.returns
 returns c =
-    let u = c.up-to.ensures in
-    let n = c.lane-count.ensures in
+    let u = c.up_to.ensures in
+    let n = c.lane_count.ensures in
     record {
       numbered = u.numbered ∙ ap lane_set n;
       others = rw n at u.others;

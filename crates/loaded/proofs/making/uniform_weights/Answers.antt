@@ -4,7 +4,7 @@ use Rattle.loaded.proofs.making.uniform_weights.Goals as goal
 
 pub returns : goal.returns
 returns c Remaining = c.uniform_weight.ensures
-returns c Lane1 = c.uniform-weight-2.ensures
-returns c Lane2 = c.uniform-weight-3.ensures
-returns c Lane3 = c.uniform-weight-4.ensures
-returns c Other = c.uniform-weight-5.ensures
+returns c Lane1 = c.uniform_weight-2.ensures
+returns c Lane2 = c.uniform_weight-3.ensures
+returns c Lane3 = c.uniform_weight-4.ensures
+returns c Other = c.uniform_weight-5.ensures

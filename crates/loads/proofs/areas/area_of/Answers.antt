@@ -6,8 +6,8 @@ use Rattle.loads.proofs.Numbers.{kept}
 use Rattle.loads.proofs.Counts.{rising, one_more}
 use Rattle.loads.proofs.areas.area_of.Goals as goal
 
-pub segment-area-sum-requires : goal.segment-area-sum-requires
-segment-area-sum-requires c =
+pub segment_area-sum-requires : goal.segment_area-sum-requires
+segment_area-sum-requires c =
     let k = c.loop-k.k in
     let ws = c.args.row.now in (
       omega (arith, c.requires.places.ends (k + 1) (omega arith)),
@@ -17,11 +17,11 @@ segment-area-sum-requires c =
       ),
     )
 
-more : (c : goal.After-segment-area-sum) → c.loop-k.sum + c.segment-area-sum.result ≡ area_to (line_of c.args.places.now c.args.row.now) (c.loop-k.k + 1)
-more c = one_more c.args.places.now c.args.row.now c.requires.row c.loop-k.k c.loop-k.sum c.segment-area-sum.result (omega arith) c.segment-area-sum.ensures c.loop-k.invariant
+more : (c : goal.After-segment_area-sum) → c.loop-k.sum + c.segment_area-sum.result ≡ area_to (line_of c.args.places.now c.args.row.now) (c.loop-k.k + 1)
+more c = one_more c.args.places.now c.args.row.now c.requires.row c.loop-k.k c.loop-k.sum c.segment_area-sum.result (omega arith) c.segment_area-sum.ensures c.loop-k.invariant
 
-pub overflow-add-sum : goal.overflow-add-sum
-overflow-add-sum c =
+pub overflow_add-sum : goal.overflow_add-sum
+overflow_add-sum c =
     let zs = c.args.places.now in
     let ws = c.args.row.now in
     omega (arith, more c, area_small (line_of zs ws) (rising zs ws c.requires.places) c.requires.row.within (c.loop-k.k + 1) (omega arith), c.requires.places.ends (c.loop-k.k + 1) (omega arith))

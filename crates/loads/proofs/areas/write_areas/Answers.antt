@@ -6,8 +6,8 @@ use Rattle.loads.proofs.Counts.{row_values}
 use Rattle.loads.proofs.Filling.{fill_more, fill_beyond}
 use Rattle.loads.proofs.areas.write_areas.Goals as goal
 
-pub area-of-requires : goal.area-of-requires
-area-of-requires c =
+pub area_of-requires : goal.area_of-requires
+area_of-requires c =
     let zs = c.args.places.now in
     let ys = c.args.heights.now in
     let j = c.loop-j.j in
@@ -21,8 +21,8 @@ loop-j-preserved c =
     let zs = c.args.places.now in
     let ys = c.args.heights.now in
     let j = c.loop-j.j in
-    let r = c.area-of.result in (
+    let r = c.area_of.result in (
       fill_more (λ (j a : ℕ). a ≡ area_to (line_of zs (row_of ys j)) (length zs - 1)) c.loop-j.areas j r 0
-          (omega arith) c.loop-j.invariant.0 (subst (λ (ws : List ℤ). r ≡ area_to (line_of zs ws) (length zs - 1)) (take_rest ys (64 * j)) c.area-of.ensures),
+          (omega arith) c.loop-j.invariant.0 (subst (λ (ws : List ℤ). r ≡ area_to (line_of zs ws) (length zs - 1)) (take_rest ys (64 * j)) c.area_of.ensures),
       fill_beyond c.loop-j.areas c.args.areas.now j r 0 c.loop-j.invariant.1,
     )

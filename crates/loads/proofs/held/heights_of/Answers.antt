@@ -16,7 +16,7 @@ loop-i-preserved g c =
             simp length-set c.loop-i.invariant.0,
             fill_more (λ (i : ℕ) (y : ℤ). i % 64 < n → y ≡ s.ordinate (c.args.first + i / 64) (i % 64)) c.loop-i.heights c.loop-i.i _ (pos 0)
                 (omega (arith, law.narrow)) c.loop-i.invariant.1
-                (λ h. back w.ordinate-of.result (omega (arith, w.ordinate-of.ensures.within)) ∙ w.ordinate-of.ensures.value),
+                (λ h. back w.ordinate_of.result (omega (arith, w.ordinate_of.ensures.within)) ∙ w.ordinate_of.ensures.value),
           )
       | else-i-n w ↦
           subst P (sym w.heights-is) (c.loop-i.invariant.0, below_more _ _ c.loop-i.invariant.1 (λ h. absurd (omega (arith, w.if-i-n.false))))

@@ -4,8 +4,8 @@ use Rattle.loads.proofs.Filling.{fill_more}
 use Rattle.loads.proofs.Numbers.{back, kept}
 use Rattle.loads.proofs.lanes.wheel_row.Goals as goal
 
-pub wheel-sum-requires : goal.wheel-sum-requires
-wheel-sum-requires c =
+pub wheel_sum-requires : goal.wheel_sum-requires
+wheel_sum-requires c =
     record { lane = c.requires.lane; rows = record { few = omega (arith, c.requires.rows.few); all = c.requires.rows.all; within = λ j k h i. c.requires.rows.within j k h (omega arith) } }
 
 pub loop-k-preserved : goal.loop-k-preserved

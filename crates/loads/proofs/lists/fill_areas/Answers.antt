@@ -13,6 +13,6 @@ returns c = λ s r.
     let b = c.slices.ensures in
     record {
       filled = λ j h. grid_area s c.args.carriageway g r j _ h
-          (subst (λ (zs : List ℕ). get_or c.write-areas.new.areas j 0 ≡ area_to (line_of zs (row_of g.heights j)) (length zs - 1)) e (c.write-areas.ensures.filled j (omega arith)));
-      beyond = λ j h. c.write-areas.ensures.beyond j (omega arith);
+          (subst (λ (zs : List ℕ). get_or c.write_areas.new.areas j 0 ≡ area_to (line_of zs (row_of g.heights j)) (length zs - 1)) e (c.write_areas.ensures.filled j (omega arith)));
+      beyond = λ j h. c.write_areas.ensures.beyond j (omega arith);
     }

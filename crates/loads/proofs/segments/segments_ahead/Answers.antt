@@ -14,7 +14,7 @@ loop-i-preserved c =
     × ((j : ℕ) → j < i + 1 → get_or zs j 0 + 1200 ≤ get_or zs (length zs - 1) 0 → Under zs (get_or ks j 0) (get_or zs j 0 + 1200)) in
     elim c.if-places-i.branch [
       | then-places-i w ↦
-          let u = w.segment-under-k.ensures in
+          let u = w.segment_under-k.ensures in
           subst₂ P (sym w.k-is) (sym w.segments-is) (
             simp length-set c.loop-i.invariant.0,
             u.inside,

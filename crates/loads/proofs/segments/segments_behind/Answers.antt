@@ -5,10 +5,10 @@ use Rattle.loads.specs.Peaks.{Under}
 use Rattle.loads.proofs.Counts.{rising}
 use Rattle.loads.proofs.Filling.{fill_more}
 use Rattle.loads.proofs.segments.segments_behind.Goals as goal
-use Rattle.loads.proofs.segments.segments_behind.Goals.{then-places-i-ge-AXLES-APART, else-places-i-ge-AXLES-APART}
+use Rattle.loads.proofs.segments.segments_behind.Goals.{then-places-i-ge-AXLES_APART, else-places-i-ge-AXLES_APART}
 
-pub segment-under-k-requires : goal.segment-under-k-requires
-segment-under-k-requires c =
+pub segment_under-k-requires : goal.segment_under-k-requires
+segment_under-k-requires c =
     let zs = c.args.places.now in
     let last = place_up (line_of zs []) (rising zs [] c.requires) c.loop-i.i (length zs - 1) (omega arith) (omega (arith, c.requires.some)) in
     record { inside = c.loop-i.invariant.1; after = c.loop-i.invariant.2 (omega arith); on = omega arith }
@@ -21,20 +21,20 @@ loop-i-preserved c =
     let P : ℕ → List ℕ → Type 0 = λ k ks.
     (length ks ≡ 64) × (k + 1 < length zs) × (i + 1 < length zs → get_or zs k 0 ≤ get_or zs (i + 1) 0 - 1200)
     × ((j : ℕ) → j < i + 1 → 1200 ≤ get_or zs j 0 → Under zs (get_or ks j 0) (get_or zs j 0 - 1200)) in
-    elim c.if-places-i-ge-AXLES-APART.branch [
-      | then-places-i-ge-AXLES-APART w ↦
-          let u = w.segment-under-k.ensures in
+    elim c.if-places-i-ge-AXLES_APART.branch [
+      | then-places-i-ge-AXLES_APART w ↦
+          let u = w.segment_under-k.ensures in
           subst₂ P (sym w.k-is) (sym w.segments-is) (
             simp length-set c.loop-i.invariant.0,
             u.inside,
             (λ h. omega (arith, up h, u.above)),
             fill_more (λ (j k : ℕ). 1200 ≤ get_or zs j 0 → Under zs k (get_or zs j 0 - 1200)) c.loop-i.segments i _ 0 (omega (arith, c.requires.few)) c.loop-i.invariant.3 (λ h. u),
           )
-      | else-places-i-ge-AXLES-APART w ↦
+      | else-places-i-ge-AXLES_APART w ↦
           subst₂ P (sym w.k-is) (sym w.segments-is) (
             c.loop-i.invariant.0,
             c.loop-i.invariant.1,
             (λ h. omega (arith, up h, c.loop-i.invariant.2 (omega arith))),
-            below_more _ _ c.loop-i.invariant.3 (λ h. absurd (omega (arith, w.if-places-i-ge-AXLES-APART.false))),
+            below_more _ _ c.loop-i.invariant.3 (λ h. absurd (omega (arith, w.if-places-i-ge-AXLES_APART.false))),
           )
     ]

@@ -22,14 +22,14 @@ weighted-right-requires c = (
   omega (arith, c.requires.places.ends (c.args.k + 1) c.requires.under.inside, c.requires.under.below),
 )
 
-pub overflow-add-result : goal.overflow-add-result
-overflow-add-result c =
+pub overflow_add-result : goal.overflow_add-result
+overflow_add-result c =
     let e = c.requires.places.ends (c.args.k + 1) c.requires.under.inside in
     let u = c.requires.under.below in
     omega (arith, ints, c.weighted-left.ensures.within, c.weighted-right.ensures.within)
 
-pub overflow-add-result-2 : goal.overflow-add-result-2
-overflow-add-result-2 c =
+pub overflow_add-result-2 : goal.overflow_add-result-2
+overflow_add-result-2 c =
     let e = c.requires.places.ends (c.args.k + 1) c.requires.under.inside in
     let u = c.requires.under.below in
     fits₃ c.weighted-here.result c.weighted-left.result c.weighted-right.result (omega (arith, c.weighted-here.ensures.within)) (omega (arith, c.weighted-left.ensures.within)) (omega (arith, c.weighted-right.ensures.within))

@@ -6,8 +6,8 @@ use Rattle.loads.proofs.tandems.greatest.Goals as goal
 
 pub loop-i-preserved : goal.loop-i-preserved
 loop-i-preserved c =
-    let A = c.try-rear-best.ensures in
-    let B = c.try-second-best.ensures in (
+    let A = c.try_rear-best.ensures in
+    let B = c.try_second-best.ensures in (
       B.good,
       below_more _ _ (λ j h f. B.keeps _ (A.keeps _ (c.loop-i.invariant.1 j h f))) (λ f. B.keeps _ (A.leads f)),
       below_more _ _ (λ j h f. B.keeps _ (A.keeps _ (c.loop-i.invariant.2 j h f))) (λ f. B.leads f),

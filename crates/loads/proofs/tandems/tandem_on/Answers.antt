@@ -16,7 +16,7 @@ pub returns-then-p-gt0 : goal.returns-then-p-gt0
 returns-then-p-gt0 c =
     let zs = c.args.tracks.places.now in
     let ws = c.args.values.now in
-    stands (line_of zs ws) (rising zs ws c.requires.tracks.places) c.in-Some.p c.in-Some.ensures c.div-ceil-t.result c.if-p-gt0.true c.div-ceil-t.ensures
+    stands (line_of zs ws) (rising zs ws c.requires.tracks.places) c.in-Some.p c.in-Some.ensures c.div_ceil-t.result c.if-p-gt0.true c.div_ceil-t.ensures
 
 pub returns-else-p-gt0 : goal.returns-else-p-gt0
 returns-else-p-gt0 c =

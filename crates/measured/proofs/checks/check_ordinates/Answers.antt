@@ -4,8 +4,8 @@ use Rattle.measured.specs.Judged.{ordinates_judged}
 use Rattle.measured.proofs.Ordinates.{ordinates_bad, ordinates_more, ordinates_all}
 use Rattle.measured.proofs.checks.check_ordinates.Goals as goal
 
-pub returns-then-unsigned-abs-gt100000 : goal.returns-then-unsigned-abs-gt100000
-returns-then-unsigned-abs-gt100000 c =
+pub returns-then-unsigned_abs-gt100000 : goal.returns-then-unsigned_abs-gt100000
+returns-then-unsigned_abs-gt100000 c =
     let vs = c.args.ordinates.now in
     let out : 100000 < nat_abs (get_or vs c.loop-i.i (pos 0)) = omega (arith, ints) in
     sym (ordinates_bad c.args.line (c.loop-i.i + 2) vs c.loop-i.i (omega arith) out) ∙ c.loop-i.invariant

@@ -3,8 +3,8 @@ use borrow.Author.Differences.{ints}
 use Rattle.surface.proofs.Quotients.{quotient_within}
 use Rattle.measured.proofs.layout.rounded_down.Goals as goal
 
-pub overflow-cast-result : goal.overflow-cast-result
-overflow-cast-result c =
+pub overflow_cast-result : goal.overflow_cast-result
+overflow_cast-result c =
     let e : to_z w64 (of_z w64 c.args.sum) ≡ c.args.sum = omega (arith, ints) in
     let f : to_z w64 c.args.by ≡ pos c.args.by = omega (arith, ints) in
     let d = simp (e, f) at c.floor.ensures in

@@ -18,7 +18,7 @@ loop-owner-preserved g c =
     let K = g.W.Worth.kind in
     let R = g.P.Parts.road c.args.parts.now in
     let n = place_number c.loop-owner.owner-index _ c.loop-owner-test.true in
-    rw c.better-of-best.ensures (one_more K g.met.W.Worth.lawful R c.args.at c.args.left.numbered c.args.left.others _ c.loop-owner.owner-index c.loop-owner.best c.begun.result n c.loop-owner.invariant c.begun.ensures)
+    rw c.better_of-best.ensures (one_more K g.met.W.Worth.lawful R c.args.at c.args.left.numbered c.args.left.others _ c.loop-owner.owner-index c.loop-owner.best c.begun.result n c.loop-owner.invariant c.begun.ensures)
 
 pub returns : goal.returns
 returns g c =

@@ -3,13 +3,13 @@ use Rattle.std.proofs.Common.{◌≡◌, sym, ◌∙◌, arith}
 use Rattle.placing.proofs.Chosen.{passed_more, lower, leads, not_all_passed}
 use Rattle.placement.proofs.Places.{place_number}
 use Rattle.placement.proofs.choice.first_owner.Goals as goal
-use Rattle.placement.proofs.choice.first_owner.Goals.{in-Some+else-not-is-below, in-default}
+use Rattle.placement.proofs.choice.first_owner.Goals.{in-Some+else-not-is_below, in_default}
 
-pub returns-then-not-is-below : goal.returns-then-not-is-below
-returns-then-not-is-below g c =
+pub returns-then-not-is_below : goal.returns-then-not-is_below
+returns-then-not-is_below g c =
     let R = g.P.Parts.road c.args.parts.now in
     let n = place_number c.loop-owner.owner-index _ c.loop-owner-test.true in
-    leads g.W.Worth.kind g.met.W.Worth.lawful R c.args.at c.args.left.numbered c.args.left.others c.best-at-best.result c.in-Some.worth _ c.loop-owner.owner-index n c.best-at-best.ensures c.in-Some.ensures (sym c.is-below.ensures ∙ c.if-not-is-below.true) c.loop-owner.invariant
+    leads g.W.Worth.kind g.met.W.Worth.lawful R c.args.at c.args.left.numbered c.args.left.others c.best_at-best.result c.in-Some.worth _ c.loop-owner.owner-index n c.best_at-best.ensures c.in-Some.ensures (sym c.is_below.ensures ∙ c.if-not-is_below.true) c.loop-owner.invariant
 
 pub loop-owner-preserved : goal.loop-owner-preserved
 loop-owner-preserved g c =
@@ -18,14 +18,14 @@ loop-owner-preserved g c =
     let R = g.P.Parts.road c.args.parts.now in
     let l = c.args.left in
     let n = place_number c.loop-owner.owner-index _ c.loop-owner-test.true in
-    passed_more K L R c.args.at l.numbered l.others c.best-at-best.result _ c.loop-owner.owner-index n c.loop-owner.invariant
+    passed_more K L R c.args.at l.numbered l.others c.best_at-best.result _ c.loop-owner.owner-index n c.loop-owner.invariant
     (elim c.match-begun.branch [
-      | in-Some+else-not-is-below w ↦ lower K L R c.args.at l.numbered l.others c.best-at-best.result w.in-Some.worth _ w.in-Some.ensures (sym w.is-below.ensures ∙ w.if-not-is-below.false)
-      | in-default w ↦ λ qs p e. w.in-default.ensures qs p
+      | in-Some+else-not-is_below w ↦ lower K L R c.args.at l.numbered l.others c.best_at-best.result w.in-Some.worth _ w.in-Some.ensures (sym w.is_below.ensures ∙ w.if-not-is_below.false)
+      | in_default w ↦ λ qs p e. w.in_default.ensures qs p
     ])
 
 pub unreachable-requires : goal.unreachable-requires
 unreachable-requires g c =
     let R = g.P.Parts.road c.args.parts.now in
     let five : c.loop-owner.owner-index ≡ 5 = omega arith in
-    not_all_passed g.W.Worth.kind g.met.W.Worth.lawful R c.args.at c.args.left.numbered c.args.left.others c.best-at-best.result c.requires.inside c.best-at-best.ensures (rw five at c.loop-owner.invariant)
+    not_all_passed g.W.Worth.kind g.met.W.Worth.lawful R c.args.at c.args.left.numbered c.args.left.others c.best_at-best.result c.requires.inside c.best_at-best.ensures (rw five at c.loop-owner.invariant)

@@ -4,5 +4,5 @@ use Rattle.rated.proofs.lines.figure_lines.Goals as goal
 pub returns : goal.returns
 returns c =
     IfOk-weaker c.format.result _ _
-    (λ s h. record { first = _; second = _; first_line = c.in-ok-first.ensures; second_line = c.in-ok-second.ensures; written = h })
+    (λ s h. record { first = _; second = _; first_line = c.in_ok-first.ensures; second_line = c.in_ok-second.ensures; written = h })
     c.format.ensures.ok

@@ -9,10 +9,10 @@ use Rattle.rated.proofs.lines.sheet_text.Goals as goal
 
 pub returns-in-Ok : goal.returns-in-Ok
 returns-in-Ok c =
-    let xs = c.rate-table.new.answers in
-    IfOk-weaker c.figure-lines.result _ _
+    let xs = c.rate_table.new.answers in
+    IfOk-weaker c.figure_lines.result _ _
     (λ s b. texts.figures _ _ (subst (λ (l : List Answer). RatedTable c.args.input.now l) (two _ xs (omega arith)) c.in-Ok.ensures) b)
-    c.figure-lines.ensures
+    c.figure_lines.ensures
 
 pub returns-in-Err : goal.returns-in-Err
-returns-in-Err c = IfOk-weaker c.refusal-line.result _ _ (λ s e. texts.refusal c.in-Err.fault c.in-Err.ensures (e ∙ ap refusal_text c.report.ensures)) c.refusal-line.ensures
+returns-in-Err c = IfOk-weaker c.refusal_line.result _ _ (λ s e. texts.refusal c.in-Err.fault c.in-Err.ensures (e ∙ ap refusal_text c.report.ensures)) c.refusal_line.ensures

@@ -16,6 +16,6 @@ returns g c = λ fit.
     let lt : length t ≡ c.min-tandems.result = search rules in
     let lb : length b ≡ c.min-bests.result = search rules in
     let lo : length o ≡ c.min-owners.result = search rules in
-    told_figure_cut s j.card c.args.kind c.args.lengths (lengths a t b o) c.figure-over.result
+    told_figure_cut s j.card c.args.kind c.args.lengths (lengths a t b o) c.figure_over.result
     (cut_enough s.slices j.card.kerbs c.args.lengths (lengths a t b o) fit (la ∙ c.min-areas.ensures) (lt ∙ c.min-tandems.ensures) (lb ∙ c.min-bests.ensures) (lo ∙ c.min-owners.ensures))
-    (c.figure-over.ensures fit)
+    (c.figure_over.ensures fit)

@@ -11,15 +11,15 @@ use Rattle.readings.proofs.numbers.read_numbers.Goals.{then-i-lt-MOST, else-i-lt
 pub loop-i-init : goal.loop-i-init
 loop-i-init c = (omega arith, λ cs ys l h. progress_none cs ys c.args.input.now c.args.at c.args.into.now l)
 
-pub returns-in-err-read : goal.returns-in-err-read
-returns-in-err-read c = λ cs ys l h.
-    absurd (progress_stands cs ys c.args.input.now c.loop-i.i c.loop-i.p c.loop-i.into (c.loop-i.invariant.1 cs ys l h) (omega arith) c.in-err-read.ensures.1)
+pub returns-in_err-read : goal.returns-in_err-read
+returns-in_err-read c = λ cs ys l h.
+    absurd (progress_stands cs ys c.args.input.now c.loop-i.i c.loop-i.p c.loop-i.into (c.loop-i.invariant.1 cs ys l h) (omega arith) c.in_err-read.ensures.1)
 
-pub returns-in-err-value : goal.returns-in-err-value
-returns-in-err-value c = λ cs ys l h.
-    let p = err_from_is_err_and c.from-residual-in-err-value.result c.from-residual-in-err-value.ensures.1 in
-    let k = c.in-ok-read.ensures in
-    let e = c.in-err-value.ensures in
+pub returns-in_err-value : goal.returns-in_err-value
+returns-in_err-value c = λ cs ys l h.
+    let p = err_from_is_err_and c.from_residual-in_err-value.result c.from_residual-in_err-value.ensures.1 in
+    let k = c.in_ok-read.ensures in
+    let e = c.in_err-value.ensures in
     let r = k.in_record in
     let f = k.in_field in
     let g = c.loop-i.invariant.1 cs ys l h in
@@ -31,11 +31,11 @@ returns-in-err-value c = λ cs ys l h.
 
 pub loop-i-preserved : goal.loop-i-preserved
 loop-i-preserved c =
-    let k = c.in-ok-read.ensures in
-    let v = c.in-ok-value.value in
-    let w = c.in-ok-value.ensures in
+    let k = c.in_ok-read.ensures in
+    let v = c.in_ok-value.value in
+    let w = c.in_ok-value.ensures in
     let long : length c.if-i-lt-MOST.into ≡ 9 = omega arith in
-    let step : c.in-ok-read.read.next < length c.args.input.now → c.saturating-add-p.result ≡ c.in-ok-read.read.next + 1 = λ h. omega arith in (
+    let step : c.in_ok-read.read.next < length c.args.input.now → c.saturating_add-p.result ≡ c.in_ok-read.read.next + 1 = λ h. omega arith in (
       long,
       λ cs ys l e.
           let g = c.loop-i.invariant.1 cs ys l e in
@@ -49,7 +49,7 @@ loop-i-preserved c =
                 subst (λ (l : List ℤ). Held (g.numbers ++ (v ∷ [])) l) (sym is) (held_set cs ys c.args.input.now c.loop-i.i c.loop-i.p c.loop-i.into g low v c.loop-i.invariant.0 a.if-i-lt-MOST.true))
             | else-i-lt-MOST a ↦ subst (λ (l : List ℤ). Held (g.numbers ++ (v ∷ [])) l) (sym a.into-is) (held_past cs ys c.args.input.now c.loop-i.i c.loop-i.p c.loop-i.into g low v a.if-i-lt-MOST.false)
           ] in
-          progress_more cs ys c.args.input.now c.loop-i.i c.loop-i.p c.loop-i.into g low v c.saturating-add-p.result c.if-i-lt-MOST.into k w step held,
+          progress_more cs ys c.args.input.now c.loop-i.i c.loop-i.p c.loop-i.into g low v c.saturating_add-p.result c.if-i-lt-MOST.into k w step held,
     )
 
 pub returns : goal.returns

@@ -4,43 +4,43 @@ use Rattle.std.proofs.lemmas.Result.{err_from_is_err_and}
 use Rattle.readings.proofs.Stations.{stops_text, stops_fields, stops_number, stops_station, row_taken}
 use Rattle.readings.proofs.rows.read_row.Goals as goal
 
-pub returns-in-err-line : goal.returns-in-err-line
-returns-in-err-line c =
-    let p = err_from_is_err_and c.from-residual.result c.from-residual.ensures.1 in
+pub returns-in_err-line : goal.returns-in_err-line
+returns-in_err-line c =
+    let p = err_from_is_err_and c.from_residual.result c.from_residual.ensures.1 in
     rw (p.1, p.2) (record {
-      row = stops_text _ _ c.args.record _ c.args.input.now c.args.at c.requires.place c.in-err-line.field-0.0 c.requires.text.1 c.in-err-line.ensures;
+      row = stops_text _ _ c.args.record _ c.args.input.now c.args.at c.requires.place c.in_err-line.field-0.0 c.requires.text.1 c.in_err-line.ensures;
       layout = refl;
       filled = refl;
     })
 
 pub returns-then-line-fields : goal.returns-then-line-fields
 returns-then-line-fields c = record {
-  row = stops_fields _ _ c.args.record _ c.args.input.now c.args.at c.requires.place c.in-ok-line.ensures (λ h. c.if-line-fields.true (h ∙ sym c.requires.fields.0));
+  row = stops_fields _ _ c.args.record _ c.args.input.now c.args.at c.requires.place c.in_ok-line.ensures (λ h. c.if-line-fields.true (h ∙ sym c.requires.fields.0));
   layout = refl;
   filled = refl;
 }
 
-pub returns-in-err-read-numbers : goal.returns-in-err-read-numbers
-returns-in-err-read-numbers c =
-    let p = err_from_is_err_and c.from-residual-in-err-read-numbers.result c.from-residual-in-err-read-numbers.ensures.1 in
-    let l = c.in-ok-line.ensures in
+pub returns-in_err-read_numbers : goal.returns-in_err-read_numbers
+returns-in_err-read_numbers c =
+    let p = err_from_is_err_and c.from_residual-in_err-read_numbers.result c.from_residual-in_err-read_numbers.ensures.1 in
+    let l = c.in_ok-line.ensures in
     let n : length l.cells ≡ c.args.fields = sym l.count ∙ c.if-line-fields.false in
     rw (p.1, p.2) (record {
-      row = stops_number _ _ c.args.record _ c.args.input.now c.args.at c.requires.place l c.in-err-read-numbers.field-0.0 (n ∙ c.requires.fields.0) (c.in-err-read-numbers.ensures l.cells (drop c.in-ok-line.line.end c.args.input.now) l.line n);
+      row = stops_number _ _ c.args.record _ c.args.input.now c.args.at c.requires.place l c.in_err-read_numbers.field-0.0 (n ∙ c.requires.fields.0) (c.in_err-read_numbers.ensures l.cells (drop c.in_ok-line.line.end c.args.input.now) l.line n);
       layout = refl;
       filled = refl;
     })
 
-pub returns-in-err-take-station : goal.returns-in-err-take-station
-returns-in-err-take-station c =
-    let p = err_from_is_err_and c.from-residual-in-err-take-station.result c.from-residual-in-err-take-station.ensures.1 in
+pub returns-in_err-take_station : goal.returns-in_err-take_station
+returns-in_err-take_station c =
+    let p = err_from_is_err_and c.from_residual-in_err-take_station.result c.from_residual-in_err-take_station.ensures.1 in
     let d = c.args.draft.now in
     let rows = c.args.rows.now in
-    let into = c.read-numbers.new.into in
-    let l = c.in-ok-line.ensures in
+    let into = c.read_numbers.new.into in
+    let l = c.in_ok-line.ensures in
     let n : length l.cells ≡ c.args.fields = sym l.count ∙ c.if-line-fields.false in
-    let t = c.in-ok-read-numbers.ensures l.cells (drop c.in-ok-line.line.end c.args.input.now) l.line n in
-    let e = c.in-err-take-station.ensures in
+    let t = c.in_ok-read_numbers.ensures l.cells (drop c.in_ok-line.line.end c.args.input.now) l.line n in
+    let e = c.in_err-take_station.ensures in
     let j = sym (e.verdict ∙ ap (λ (f : ℕ). station_judged d.layout.count d.filled rows (get_or into 0 (pos 0)) (take (f - 1) (drop 1 into))) c.requires.fields.0) in
     rw (p.1, p.2) (record {
       row = stops_station d.layout.count d.filled c.args.record rows c.args.input.now c.args.at c.requires.place l into t (n ∙ c.requires.fields.0) (omega arith) (omega arith) _ j;
@@ -52,11 +52,11 @@ pub returns : goal.returns
 returns c =
     let d = c.args.draft.now in
     let rows = c.args.rows.now in
-    let into = c.read-numbers.new.into in
-    let l = c.in-ok-line.ensures in
+    let into = c.read_numbers.new.into in
+    let l = c.in_ok-line.ensures in
     let n : length l.cells ≡ c.args.fields = sym l.count ∙ c.if-line-fields.false in
-    let t = c.in-ok-read-numbers.ensures l.cells (drop c.in-ok-line.line.end c.args.input.now) l.line n in
-    let e = c.in-ok-take-station.ensures in
+    let t = c.in_ok-read_numbers.ensures l.cells (drop c.in_ok-line.line.end c.args.input.now) l.line n in
+    let e = c.in_ok-take_station.ensures in
     let j = sym (e.verdict ∙ ap (λ (f : ℕ). station_judged d.layout.count d.filled rows (get_or into 0 (pos 0)) (take (f - 1) (drop 1 into))) c.requires.fields.0) in
     let r = e.rows ∙ ap (λ (f : ℕ). set rows d.filled (row_of d.layout.count (get_or into 0 (pos 0)) (take (f - 1) (drop 1 into)))) c.requires.fields.0 in
     record {

@@ -4,12 +4,12 @@ use Rattle.report.proofs.Spacing.{spaced_all, spaced_more}
 use Rattle.report.proofs.cells.spaced_cell.Goals as goal
 
 pub loop-number-init : goal.loop-number-init
-loop-number-init c = c.in-ok-text.ensures.ok ∙ sym (append-nil _)
+loop-number-init c = c.in_ok-text.ensures.ok ∙ sym (append-nil _)
 
 pub loop-number-preserved : goal.loop-number-preserved
 loop-number-preserved c =
-    c.in-ok-push-str.ensures.bytes
-    ∙ ap (λ (more : List ℕ). string_bytes c.loop-number.text ++ more) (c.as-str.ensures.value ∙ c.in-ok-more.ensures)
+    c.in_ok-push_str.ensures.bytes
+    ∙ ap (λ (more : List ℕ). string_bytes c.loop-number.text ++ more) (c.as_str.ensures.value ∙ c.in_ok-more.ensures)
     ∙ spaced_more _ _ c.loop-number.number-index _ c.loop-number-test.true c.loop-number.invariant
 
 pub returns : goal.returns

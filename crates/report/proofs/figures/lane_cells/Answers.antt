@@ -6,5 +6,5 @@ use Rattle.report.proofs.figures.lane_cells.Goals as goal
 pub returns : goal.returns
 returns c =
     IfOk-weaker c.format.result _ _
-    (λ s h. h ∙ same_row c.args.figure c.kind-name-name.ensures c.in-ok-lanes.ensures c.in-ok-places.ensures)
+    (λ s h. h ∙ same_row c.args.figure c.kind_name-name.ensures c.in_ok-lanes.ensures c.in_ok-places.ensures)
     c.format.ensures.ok

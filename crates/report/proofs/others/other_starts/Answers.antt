@@ -4,10 +4,10 @@ use Rattle.report.specs.Shown.{BeginsOther, Listed, count_of}
 use Rattle.report.proofs.Counts.{begins_at, count_more, count_none, count_same}
 use Rattle.report.proofs.Listing.{listed_more, listed_none, listed_same}
 use Rattle.report.proofs.others.other_starts.Goals as goal
-use Rattle.report.proofs.others.other_starts.Goals.{then-begins+in-ok-push, else-begins, then-owners-j-eq-OTHER, else-owners-j-eq-OTHER}
+use Rattle.report.proofs.others.other_starts.Goals.{then-begins+in_ok-push, else-begins, then-owners-j-eq-OTHER, else-owners-j-eq-OTHER}
 
-pub returns-in-err-push : goal.returns-in-err-push
-returns-in-err-push c = IfOk-from_err c.from-residual.result _ c.from-residual.ensures.0
+pub returns-in_err-push : goal.returns-in_err-push
+returns-in_err-push c = IfOk-from_err c.from_residual.result _ c.from_residual.ensures.0
 
 pub loop-j-init : goal.loop-j-init
 loop-j-init c = (sym (count_none c.args.owners.now 4), omega arith, simp c.new-starts.ensures.items (listed_none _))
@@ -25,9 +25,9 @@ loop-j-preserved c =
     in
     let listed : Listed (BeginsOther owners) (j + 1) (vec_items c.if-begins.starts) =
     elim c.if-begins.branch [
-      | then-begins+in-ok-push w ↦ subst (λ (xs : List ℕ). Listed (BeginsOther owners) (j + 1) xs) (sym (ap vec_items w.starts-is ∙ w.in-ok-push.ensures.items))
-          (listed_more (BeginsOther owners) j (vec_items c.loop-j.starts) c.loop-j.invariant.2 (begins_at w.if-begins.ensures c.loop-j.invariant.0 c.owned-slices-width.ensures))
+      | then-begins+in_ok-push w ↦ subst (λ (xs : List ℕ). Listed (BeginsOther owners) (j + 1) xs) (sym (ap vec_items w.starts-is ∙ w.in_ok-push.ensures.items))
+          (listed_more (BeginsOther owners) j (vec_items c.loop-j.starts) c.loop-j.invariant.2 (begins_at w.if-begins.ensures c.loop-j.invariant.0 c.owned_slices-width.ensures))
       | else-begins w ↦ subst (λ (xs : List ℕ). Listed (BeginsOther owners) (j + 1) xs) (sym (ap vec_items w.starts-is))
-          (listed_same (BeginsOther owners) j (vec_items c.loop-j.starts) c.loop-j.invariant.2 (λ b. w.if-begins.ensures (begins_at b (sym c.loop-j.invariant.0) (sym c.owned-slices-width.ensures))))
+          (listed_same (BeginsOther owners) j (vec_items c.loop-j.starts) c.loop-j.invariant.2 (λ b. w.if-begins.ensures (begins_at b (sym c.loop-j.invariant.0) (sym c.owned_slices-width.ensures))))
     ]
     in (counted.0, counted.1, listed)

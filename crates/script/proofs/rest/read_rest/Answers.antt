@@ -10,4 +10,4 @@ pub returns : goal.returns
 returns c = λ ds ys l h.
     let n : length ds ≡ c.args.count = omega (arith, c.if-fields-count.false) in
     let some : 0 < length ds = omega (arith, c.requires.0) in
-    MatchResult-weaker c.read-numbers.result (c.read-numbers.ensures ds ys (l some) n) (λ _ t. (n, t)) (λ e m. rest.number e n m)
+    MatchResult-weaker c.read_numbers.result (c.read_numbers.ensures ds ys (l some) n) (λ _ t. (n, t)) (λ e m. rest.number e n m)

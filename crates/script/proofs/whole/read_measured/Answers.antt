@@ -5,17 +5,17 @@ use Rattle.script.proofs.Fronts.{front_taken, front_refused}
 use Rattle.script.proofs.Telling.{told_weaker}
 use Rattle.script.proofs.whole.read_measured.Goals as goal
 
-pub returns-in-err-draft : goal.returns-in-err-draft
-returns-in-err-draft c =
-    let p = err_from_is_err_and c.from-residual.result c.from-residual.ensures.1 in
-    let end = c.surface-part-part.result.end in
-    let f = c.in-err-draft.field-0.0 in
-    let s = front_refused end c.args.input.now c.args.rows.now f c.in-err-draft.ensures.0 in
-    rw (p.1, p.2) (scripts.run end _ f c.surface-part-part.ensures.ends s, refl)
+pub returns-in_err-draft : goal.returns-in_err-draft
+returns-in_err-draft c =
+    let p = err_from_is_err_and c.from_residual.result c.from_residual.ensures.1 in
+    let end = c.surface_part-part.result.end in
+    let f = c.in_err-draft.field-0.0 in
+    let s = front_refused end c.args.input.now c.args.rows.now f c.in_err-draft.ensures.0 in
+    rw (p.1, p.2) (scripts.run end _ f c.surface_part-part.ensures.ends s, refl)
 
-pub returns-in-err-tail : goal.returns-in-err-tail
-returns-in-err-tail c =
-    let p = err_from_is_err_and c.from-residual-in-err-tail.result c.from-residual-in-err-tail.ensures.1 in
-    let end = c.surface-part-part.result.end in
-    let t = front_taken end c.args.input.now c.args.rows.now _ _ _ _ _ c.in-ok-draft.ensures in
-    rw (p.1, p.2) (told_weaker _ _ (λ f s. scripts.tail end _ _ _ _ _ _ f c.surface-part-part.ensures.ends t s) c.in-err-tail.field-0.0 c.in-err-tail.ensures, refl)
+pub returns-in_err-tail : goal.returns-in_err-tail
+returns-in_err-tail c =
+    let p = err_from_is_err_and c.from_residual-in_err-tail.result c.from_residual-in_err-tail.ensures.1 in
+    let end = c.surface_part-part.result.end in
+    let t = front_taken end c.args.input.now c.args.rows.now _ _ _ _ _ c.in_ok-draft.ensures in
+    rw (p.1, p.2) (told_weaker _ _ (λ f s. scripts.tail end _ _ _ _ _ _ f c.surface_part-part.ensures.ends t s) c.in_err-tail.field-0.0 c.in_err-tail.ensures, refl)

@@ -9,14 +9,14 @@ pub returns-in-Ok : goal.returns-in-Ok
 returns-in-Ok g c =
     let s = g.S.Surface.shape c.args.surface in
     let o = c.args.tail.now.opening in
-    let room : length c.as-slice-calls.result.now ≤ length c.args.answers.now = omega (arith, c.as-slice-calls.ensures.len) in
-    subst (λ (ks : List Call). RanSo s o.number o.kerbs ks (bytes_in string_bytes c.run-text.result) (duty_told (λ d. d.number) (λ d. d.serial) c.in-Ok.duty)) c.as-slice-calls.ensures.value
-    (run_made string_bytes (λ d. d.number) (λ d. d.serial) s o.number o.kerbs c.as-slice-calls.result.now c.args.answers.now c.replay.new.answers room c.in-Ok.duty c.run-text.result c.in-Ok.ensures c.run-text.ensures)
+    let room : length c.as_slice-calls.result.now ≤ length c.args.answers.now = omega (arith, c.as_slice-calls.ensures.len) in
+    subst (λ (ks : List Call). RanSo s o.number o.kerbs ks (bytes_in string_bytes c.run_text.result) (duty_told (λ d. d.number) (λ d. d.serial) c.in-Ok.duty)) c.as_slice-calls.ensures.value
+    (run_made string_bytes (λ d. d.number) (λ d. d.serial) s o.number o.kerbs c.as_slice-calls.result.now c.args.answers.now c.replay.new.answers room c.in-Ok.duty c.run_text.result c.in-Ok.ensures c.run_text.ensures)
 
 pub returns-in-Err : goal.returns-in-Err
 returns-in-Err g c =
     let s = g.S.Surface.shape c.args.surface in
     let o = c.args.tail.now.opening in
-    let room : length c.as-slice-calls.result.now ≤ length c.args.answers.now = omega (arith, c.as-slice-calls.ensures.len) in
-    subst (λ (ks : List Call). RanSo s o.number o.kerbs ks (bytes_in string_bytes c.refusal-line.result) None) c.as-slice-calls.ensures.value
-    (run_refused string_bytes (λ d. d.number) (λ d. d.serial) s o.number o.kerbs c.as-slice-calls.result.now c.args.answers.now c.replay.new.answers room c.in-Err.fault c.report.result c.refusal-line.result c.in-Err.ensures c.report.ensures c.refusal-line.ensures)
+    let room : length c.as_slice-calls.result.now ≤ length c.args.answers.now = omega (arith, c.as_slice-calls.ensures.len) in
+    subst (λ (ks : List Call). RanSo s o.number o.kerbs ks (bytes_in string_bytes c.refusal_line.result) None) c.as_slice-calls.ensures.value
+    (run_refused string_bytes (λ d. d.number) (λ d. d.serial) s o.number o.kerbs c.as_slice-calls.result.now c.args.answers.now c.replay.new.answers room c.in-Err.fault c.report.result c.refusal_line.result c.in-Err.ensures c.report.ensures c.refusal_line.ensures)

@@ -14,8 +14,8 @@ returns-in-Ok c =
     let sn : to_z w32 (of_z w32 e.slices) ≡ e.slices = omega (arith, ints) in
     let sf : to_z w32 (of_z w32 e.left) ≡ e.left = omega (arith, ints) in
     let sg : to_z w32 (of_z w32 e.right) ≡ e.right = omega (arith, ints) in
-    let a = rw (sn, sf, sg, c.as-slice.ensures.value) at c.in-Ok.ensures in
-    made_over e.slices e.left e.right (vec_items c.args.lined.now.line) t.turns t.opening.number t.opening.kerbs (vec_items t.calls) _ _ m.slices m.left m.right m.line.now _ a c.run-turned.ensures
+    let a = rw (sn, sf, sg, c.as_slice.ensures.value) at c.in-Ok.ensures in
+    made_over e.slices e.left e.right (vec_items c.args.lined.now.line) t.turns t.opening.number t.opening.kerbs (vec_items t.calls) _ _ m.slices m.left m.right m.line.now _ a c.run_turned.ensures
 
 pub returns-in-Err : goal.returns-in-Err
 returns-in-Err c =
@@ -27,5 +27,5 @@ returns-in-Err c =
     let sn : to_z w32 (of_z w32 e.slices) ≡ e.slices = omega (arith, ints) in
     let sf : to_z w32 (of_z w32 e.left) ≡ e.left = omega (arith, ints) in
     let sg : to_z w32 (of_z w32 e.right) ≡ e.right = omega (arith, ints) in
-    let a = rw (sn, sf, sg, c.as-slice.ensures.value) at c.in-Err.ensures in
+    let a = rw (sn, sf, sg, c.as_slice.ensures.value) at c.in-Err.ensures in
     refused_over e.slices e.left e.right (vec_items c.args.lined.now.line) t.turns t.opening.number t.opening.kerbs (vec_items t.calls) _ _ c.in-Err.fault _ _ a c.unread.ensures

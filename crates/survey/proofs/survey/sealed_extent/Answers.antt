@@ -10,8 +10,8 @@ pub returns-in-Ok : goal.returns-in-Ok
 returns-in-Ok c =
     let into = c.seal.new.into in
     let d = c.args.draft in
-    let r = c.extent-of.result in
+    let r = c.extent_of.result in
     let s = settled _ _ _ _ _ c.in-Ok.ensures in
-    let a = subst (λ (l : Layout). Extends (rows_shape l.slices l.count l.paths into.stations into.rows.now) r) s.1.0 c.extent-of.ensures in
+    let a = subst (λ (l : Layout). Extends (rows_shape l.slices l.count l.paths into.stations into.rows.now) r) s.1.0 c.extent_of.ensures in
     let b = subst (λ (t : ℕ). Extends (rows_shape d.layout.slices d.layout.count d.layout.paths t into.rows.now) r) s.1.1 a in
     (s.0, subst (λ (rs : List Row). Extends (rows_shape d.layout.slices d.layout.count d.layout.paths d.filled rs) r) s.1.2 b)

@@ -8,15 +8,15 @@ use Rattle.table.specs.Cells.{Bare}
 use Rattle.table.proofs.Turns.{stops_here}
 use Rattle.table.proofs.field.bare_length.Goals as goal
 
-pub returns-then-not-is-bare : goal.returns-then-not-is-bare
-returns-then-not-is-bare c = record {
+pub returns-then-not-is_bare : goal.returns-then-not-is_bare
+returns-then-not-is_bare c = record {
   within = omega arith;
   bare = c.loop-i.invariant;
-  stops = stops_here _ _ c.loop-i-test.true (λ b. both_ways _ c.if-not-is-bare.true (c.is-bare.ensures.1 b));
+  stops = stops_here _ _ c.loop-i-test.true (λ b. both_ways _ c.if-not-is_bare.true (c.is_bare.ensures.1 b));
 }
 
 pub loop-i-preserved : goal.loop-i-preserved
-loop-i-preserved c = All-more Bare _ _ 0 c.loop-i-test.true c.loop-i.invariant (c.is-bare.ensures.0 c.if-not-is-bare.false)
+loop-i-preserved c = All-more Bare _ _ 0 c.loop-i-test.true c.loop-i.invariant (c.is_bare.ensures.0 c.if-not-is_bare.false)
 
 pub returns : goal.returns
 returns c =

@@ -12,5 +12,5 @@ returns-in-13 c = (λ _. ends_line c.args.rest.now (search rules) (search rules)
 pub returns-in-44 : goal.returns-in-44
 returns-in-44 c = (λ _. ends_comma c.args.rest.now (search rules) (search rules), λ _. refl)
 
-pub returns-in-44·2 : goal.returns-in-44·2
-returns-in-44·2 c = (λ _. ends_comma c.args.rest.now (search rules) (search rules), λ _. refl)
+pub returns-in-44-2 : goal.returns-in-44-2
+returns-in-44-2 c = (λ _. ends_comma c.args.rest.now (search rules) (search rules), λ _. refl)

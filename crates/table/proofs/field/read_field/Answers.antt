@@ -7,16 +7,16 @@ use Rattle.table.proofs.field.read_field.Goals.{In-Some}
 
 -- the text that was found stands at `at`, and fits into what is left of the input
 found : (c : goal.In-Some) → InFront (cell_of c.in-Some.text) (drop c.args.at c.args.input.now)
-found c = subst (InFront (cell_of c.in-Some.text)) c.rest-from.ensures c.in-Some.ensures
+found c = subst (InFront (cell_of c.in-Some.text)) c.rest_from.ensures c.in-Some.ensures
 
 room : (c : goal.In-Some) → length (written (cell_of c.in-Some.text)) ≤ length c.args.input.now - c.args.at
 room c = omega (arith, width_le (found c), length-drop c.args.at c.args.input.now)
 
-pub written-length-requires : goal.written-length-requires
-written-length-requires c = omega (arith, room c)
+pub written_length-requires : goal.written_length-requires
+written_length-requires c = omega (arith, room c)
 
-pub overflow-add-result : goal.overflow-add-result
-overflow-add-result c = let r = room (goal.at.overflow-add-result c).In-Some in record { fits = omega (arith, c.ranges.at.fits) }
+pub overflow_add-result : goal.overflow_add-result
+overflow_add-result c = let r = room (goal.at.overflow_add-result c).In-Some in record { fits = omega (arith, c.ranges.at.fits) }
 
 pub returns-in-Some : goal.returns-in-Some
 returns-in-Some c =
@@ -31,4 +31,4 @@ returns-in-Some c =
     }
 
 pub returns-in-None : goal.returns-in-None
-returns-in-None c = (refl, subst MalformedAt c.rest-from.ensures c.in-None.ensures)
+returns-in-None c = (refl, subst MalformedAt c.rest_from.ensures c.in-None.ensures)

@@ -22,11 +22,11 @@ small c =
     let l = c.loop-byte-test.true in
     omega (arith, c.loop-byte.invariant.1, room c.args.bytes.now c.loop-byte.byte-index l (omega arith) c.loop-byte.invariant.0)
 
-pub overflow-mul-value : goal.overflow-mul-value
-overflow-mul-value c = record { fits = omega (arith, small c) }
+pub overflow_mul-value : goal.overflow_mul-value
+overflow_mul-value c = record { fits = omega (arith, small c) }
 
-pub overflow-add-value : goal.overflow-add-value
-overflow-add-value c = record { fits = omega (arith, small (goal.at.overflow-add-value c).Else-byte-gt57) }
+pub overflow_add-value : goal.overflow_add-value
+overflow_add-value c = record { fits = omega (arith, small (goal.at.overflow_add-value c).Else-byte-gt57) }
 
 pub loop-byte-preserved : goal.loop-byte-preserved
 loop-byte-preserved c =

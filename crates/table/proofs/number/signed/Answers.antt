@@ -6,14 +6,14 @@ use Rattle.table.proofs.Numerals.{numeral_lt, fits_pos, fits_cast_neg, cast_pos,
 use Rattle.table.proofs.number.signed.Goals as goal
 use Rattle.table.proofs.number.signed.Goals.{else-bytes-gt0-via-then-bytes-gt0+else-bytes-eq45, else-bytes-gt0-via-else-bytes-gt0}
 
-pub overflow-cast-result : goal.overflow-cast-result
-overflow-cast-result c = fits_pos c.in-Some.value (numeral_lt c.in-Some.ensures)
+pub overflow_cast-result : goal.overflow_cast-result
+overflow_cast-result c = fits_pos c.in-Some.value (numeral_lt c.in-Some.ensures)
 
-pub overflow-sub-result : goal.overflow-sub-result
-overflow-sub-result c = fits_cast_neg c.in-Some.value (numeral_lt c.in-Some.ensures)
+pub overflow_sub-result : goal.overflow_sub-result
+overflow_sub-result c = fits_cast_neg c.in-Some.value (numeral_lt c.in-Some.ensures)
 
-pub overflow-cast-result-in-Some-digits : goal.overflow-cast-result-in-Some-digits
-overflow-cast-result-in-Some-digits c = fits_pos c.in-Some-digits.value (numeral_lt c.in-Some-digits.ensures)
+pub overflow_cast-result-in-Some-digits : goal.overflow_cast-result-in-Some-digits
+overflow_cast-result-in-Some-digits c = fits_pos c.in-Some-digits.value (numeral_lt c.in-Some-digits.ensures)
 
 pub returns-in-Some : goal.returns-in-Some
 returns-in-Some c =

@@ -3,8 +3,8 @@ use Rattle.std.proofs.Common.{arith}
 use Rattle.loaded.proofs.Lent.{uniform_share, uniform_low}
 use Rattle.loaded.proofs.loads.LoadedCarriageway.uniform_effect.Goals as goal
 
-pub overflow-mul-result : goal.overflow-mul-result
-overflow-mul-result c =
+pub overflow_mul-result : goal.overflow_mul-result
+overflow_mul-result c =
     let t = uniform_share c.args.self.now c.args.owner c.args.at c.requires c.number.result c.area.result c.number.ensures c.area.ensures in
     omega (arith, uniform_low c.args.self.now c.args.owner c.args.at c.requires)
 

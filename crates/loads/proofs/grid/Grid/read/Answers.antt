@@ -9,15 +9,15 @@ returns g c =
     let s = g.S.Surface.shape c.args.surface.now in
     let w = g.S.Surface.lawful c.args.surface.now in
     let road = c.args.carriageway in
-    let l₁ : length c.places-of-places.result ≡ 64 = search rules in
-    let l₂ : length c.heights-of-heights.result ≡ 19200 = search rules in
-    let r : Read s road (record { stations = c.stations-stations.result; places = c.places-of-places.result; heights = c.heights-of-heights.result }) = record {
+    let l₁ : length c.places_of-places.result ≡ 64 = search rules in
+    let l₂ : length c.heights_of-heights.result ≡ 19200 = search rules in
+    let r : Read s road (record { stations = c.stations-stations.result; places = c.places_of-places.result; heights = c.heights_of-heights.result }) = record {
       lawful = w;
       deck = omega arith;
       count = c.stations-stations.ensures;
       room = l₁;
-      places_read = c.places-of-places.ensures;
+      places_read = c.places_of-places.ensures;
       rows = omega (arith, w.narrow);
-      heights_read = subst (λ (n : ℕ). HeightsRead s road.first n c.heights-of-heights.result) c.slices.ensures c.heights-of-heights.ensures;
+      heights_read = subst (λ (n : ℕ). HeightsRead s road.first n c.heights_of-heights.result) c.slices.ensures c.heights_of-heights.ensures;
     } in
     record { ready = grid_ready s road _ r; read = r }

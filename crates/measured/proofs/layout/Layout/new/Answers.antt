@@ -5,10 +5,10 @@ use Rattle.measured.proofs.layout.Layout.new.Goals as goal
 pub laid-all-requires : goal.laid-all-requires
 laid-all-requires c =
     let n : ℤ = to_z w32 (of_z w32 c.args.slices) in
-    let e = c.in-ok-check-header.ensures in
+    let e = c.in_ok-check_header.ensures in
     record { few = (paths_counted n c.args.paths.now _ e).1; natural = paths_natural n c.args.paths.now _ e }
 
 pub invariant-of-result : goal.invariant-of-result
 invariant-of-result c =
     let n : ℤ = to_z w32 (of_z w32 c.args.slices) in
-    (simp c.laid-all.ensures (header_sound n c.args.paths.now _ c.in-ok-check-header.ensures), tt)
+    (simp c.laid-all.ensures (header_sound n c.args.paths.now _ c.in_ok-check_header.ensures), tt)

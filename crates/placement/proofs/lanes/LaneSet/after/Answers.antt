@@ -3,8 +3,8 @@ use Rattle.std.proofs.Common.{◌-◌, arith}
 use Rattle.placing.proofs.Sets.{digits}
 use Rattle.placement.proofs.lanes.LaneSet.after.Goals as goal
 
-pub overflow-sub-result-in-Lane3 : goal.overflow-sub-result-in-Lane3
-overflow-sub-result-in-Lane3 c = let d = digits c.args.self.numbered c.args.self.numbered_low in omega arith
+pub overflow_sub-result-in-Lane3 : goal.overflow_sub-result-in-Lane3
+overflow_sub-result-in-Lane3 c = let d = digits c.args.self.numbered c.args.self.numbered_low in omega arith
 
 pub returns-in-Lane1 : goal.returns-in-Lane1
 returns-in-Lane1 c = let d = digits c.args.self.numbered c.args.self.numbered_low in let e = digits (c.args.self.numbered - 1) (omega arith) in rw c.in-Lane1.is (omega arith)
@@ -15,11 +15,11 @@ returns-in-Lane2 c = let d = digits c.args.self.numbered c.args.self.numbered_lo
 pub returns-in-Lane3 : goal.returns-in-Lane3
 returns-in-Lane3 c = let d = digits c.args.self.numbered c.args.self.numbered_low in let e = digits (c.args.self.numbered - 4) (omega arith) in rw c.in-Lane3.is (omega arith)
 
-pub returns-in-default : goal.returns-in-default
-returns-in-default c ps h = let d = digits c.args.self.numbered c.args.self.numbered_low in let k = rw c.in-Lane1.is at h in omega arith
+pub returns-in_default : goal.returns-in_default
+returns-in_default c ps h = let d = digits c.args.self.numbered c.args.self.numbered_low in let k = rw c.in-Lane1.is at h in omega arith
 
-pub returns-in-default·2 : goal.returns-in-default·2
-returns-in-default·2 c ps h = let d = digits c.args.self.numbered c.args.self.numbered_low in let k = rw c.in-Lane2.is at h in omega arith
+pub returns-in_default-2 : goal.returns-in_default-2
+returns-in_default-2 c ps h = let d = digits c.args.self.numbered c.args.self.numbered_low in let k = rw c.in-Lane2.is at h in omega arith
 
-pub returns-in-default·3 : goal.returns-in-default·3
-returns-in-default·3 c ps h = let d = digits c.args.self.numbered c.args.self.numbered_low in let k = rw c.in-Lane3.is at h in omega arith
+pub returns-in_default-3 : goal.returns-in_default-3
+returns-in_default-3 c ps h = let d = digits c.args.self.numbered c.args.self.numbered_low in let k = rw c.in-Lane3.is at h in omega arith

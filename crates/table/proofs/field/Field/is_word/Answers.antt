@@ -7,5 +7,5 @@ use Rattle.std.proofs.lemmas.Bool.Decides.{Decides-eqb}
 pub returns : goal.returns
 returns c =
     let same = slice_eq-Decides Decides-eqb _ _ _ c.eq.ensures in
-    let text = c.content-of.ensures in
+    let text = c.content_of.ensures in
     (λ t. sym text ∙ same.0 t, λ e. same.1 (text ∙ e))
