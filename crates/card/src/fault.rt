@@ -2,7 +2,7 @@
 
 ghost use Rattle.std.specs.Prelude.{◌≡◌};
 ghost use Rattle.card.specs.Told.{by_job, job_told};
-ghost use Rattle.card.specs.declared.fault.JobFault.TheVariants.{Surface as by-surface};
+ghost use Rattle.card.specs.declared.fault.JobFault.TheVariants.{Surface as by_surface};
 
 use surface::fault::SurfaceFault;
 use table::fault::{Layer, Report};
@@ -24,7 +24,7 @@ pub enum JobFault {
 }
 
 impl From<SurfaceFault> for JobFault {
-    ghost from_gives = { λ f r. r ≡ by-surface f };
+    ghost from_gives = { λ f r. r ≡ by_surface f };
 
     fn from(fault: SurfaceFault) -> JobFault {
         JobFault::Surface(fault)

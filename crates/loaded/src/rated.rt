@@ -3,7 +3,7 @@
 ghost use Rattle.std.specs.Prelude.{◌≡◌, ◌+◌, ◌*◌, ◌≤◌, length, take, drop};
 ghost use Rattle.placing.specs.Placing.{Filled};
 ghost use Rattle.placing.specs.Loaded.{loaded, Rated, SameLoads};
-ghost use Rattle.worths.specs.Kinds.{effect_kind, kerbed_kind, kerbed as kerbed-worth};
+ghost use Rattle.worths.specs.Kinds.{effect_kind, kerbed_kind, kerbed as kerbed_worth};
 ghost use Rattle.loaded.specs.Lent.{loads_of};
 ghost use Rattle.loaded.specs.Figures.{SameFigure};
 
@@ -49,9 +49,9 @@ pub fn place_drawing(
 ) -> Kerbed
     requires long { 24 * (loads.now.slices + 1) ≤ length bests.old }
     requires room { loads.now.slices ≤ length owners.old }
-    ensures filled { Filled kerbed_kind (loaded kerbed-worth (loads_of loads.now)) 0 bests.new }
+    ensures filled { Filled kerbed_kind (loaded kerbed_worth (loads_of loads.now)) 0 bests.new }
     ensures bests_beyond { drop (24 * (loads.now.slices + 1)) bests.new ≡ drop (24 * (loads.now.slices + 1)) bests.old }
-    ensures rated { Rated kerbed_kind kerbed-worth (loads_of loads.now) loads.now.lanes.numbered loads.now.lanes.others result (take loads.now.slices owners.new) }
+    ensures rated { Rated kerbed_kind kerbed_worth (loads_of loads.now) loads.now.lanes.numbered loads.now.lanes.others result (take loads.now.slices owners.new) }
     ensures owners_beyond { drop loads.now.slices owners.new ≡ drop loads.now.slices owners.old }
 {
     place_loads::<Kerbed>(loads, bests, owners)

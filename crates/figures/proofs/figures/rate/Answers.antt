@@ -16,10 +16,10 @@ place_listed-won-requires g c =
     record {
       wide = fit.wide;
       low = lists_low s (g.S.Surface.lawful c.args.surface.now) fit (each_low c.args.factors c.requires.bounds) areas tandems;
-      areas-long = omega (arith, long.areas, f.auto.areas);
+      areas_long = omega (arith, long.areas, f.auto.areas);
       tandems_long = omega (arith, long.tandems, f.auto.tandems);
-      bests-long = long.bests;
-      owners-long = long.owners;
+      bests_long = long.bests;
+      owners_long = long.owners;
     }
 
 pub returns : goal.returns

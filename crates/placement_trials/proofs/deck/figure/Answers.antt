@@ -4,4 +4,4 @@ use Rattle.placement_trials.proofs.Level.{level_low}
 use Rattle.placement_trials.proofs.deck.figure.Goals as goal
 
 pub new-loads-requires : goal.new-loads-requires
-new-loads-requires c = record { wide = omega arith; low = level_low c.args.width (omega arith) (omega arith); areas-long = omega arith; tandems_long = omega arith }
+new-loads-requires c = record { wide = omega arith; low = level_low c.args.width (omega arith) (omega arith); areas_long = omega arith; tandems_long = omega arith }

@@ -8,7 +8,7 @@ laid-all-requires c =
     let e = c.in_ok-check_header.ensures in
     record { few = (paths_counted n c.args.paths.now _ e).1; natural = paths_natural n c.args.paths.now _ e }
 
-pub invariant-of-result : goal.invariant-of-result
-invariant-of-result c =
+pub invariant_of-result : goal.invariant_of-result
+invariant_of-result c =
     let n : ℤ = to_z w32 (of_z w32 c.args.slices) in
-    (simp c.laid-all.ensures (header_sound n c.args.paths.now _ c.in_ok-check_header.ensures), tt)
+    record { ok = simp c.laid-all.ensures (header_sound n c.args.paths.now _ c.in_ok-check_header.ensures) }
