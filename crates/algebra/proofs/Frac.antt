@@ -1,5 +1,5 @@
 -- The laws of fractions: their order, equal values, sums and multiples.
-use Rattle.std.proofs.Common.{ℕ, ◌+◌, ◌*◌, [], ◌∷◌, ℤ, pos, ◌+ℤ◌, ◌*ℤ◌, ◌≤ℤ◌, refl, arith}
+use Rattle.std.proofs.Common.{ℕ, ◌+◌, ◌*◌, [], ◌∷◌, pos, refl, arith}
 use lib.Signed.{≤ℤ_refl}
 use Rattle.std.proofs.lemmas.Int.{ints}
 use Rattle.algebra.specs.Frac.{Frac, ◌≤F◌, ◌≈F◌, Same, whole, ◌+F◌, Scales}

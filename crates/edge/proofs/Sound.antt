@@ -1,5 +1,5 @@
 -- What the verdict passes makes a lawful edge surface.
-use Rattle.std.proofs.Common.{◌≡◌, ℕ, ◌+◌, ◌-◌, ◌<◌, ◌≤◌, true, false, cond, ◌||◌, eqb, ltb, List, length, ℤ, pos, nat_abs, Ok, Err, ap, ◌∙◌, arith}
+use Rattle.std.proofs.Common.{◌≡◌, ℕ, ◌+◌, ◌<◌, ◌≤◌, true, false, cond, ◌||◌, eqb, ltb, List, length, ℤ, pos, nat_abs, Ok, Err, ap, ◌∙◌, arith}
 use lib.Signed.{lt_z, non_neg}
 use Rattle.std.proofs.lemmas.Bool.{ltb-false, or_parts, cond-false, ne_eqb}
 use Rattle.surface.specs.Stations.{place_fits}

@@ -1,6 +1,5 @@
 -- A of a slice bounds every loading, comes near the loading where the ordinate is positive, and is kept by both turns.
 use Rattle.std.proofs.Common.{◌≡◌, ℕ, zero, suc, ◌+◌, ◌-◌, ◌*◌, ◌<◌, ◌≤◌, ℤ, nat_abs, sym, refl, ap, ◌∙◌, ap₂, arith}
-use Rattle.algebra.specs.Sums.{total}
 use Rattle.algebra.proofs.Sums.{total_bound, total_near, total_cong, total_reverse}
 use Rattle.surface.specs.Shape.{end_for_end}
 use Rattle.surface.specs.Turns.{place_rises}

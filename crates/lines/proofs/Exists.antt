@@ -2,7 +2,7 @@
 use Rattle.std.proofs.Common.{◌≡◌, ℕ, zero, suc, ◌+◌, ◌-◌, ◌*◌, ◌<◌, ◌≤◌, max, ◌⊎◌, ℤ, pos, negsuc, ◌*ℤ◌, Some, None, Option, sym, refl, ap, subst, inl, inr, ⊎_elim, arith}
 use Rattle.std.proofs.lemmas.Int.{ints, by_lt_z}
 use Rattle.std.proofs.lemmas.Bool.{cases_lt}
-use Rattle.algebra.specs.Frac.{Frac, ◌≤F◌, Same, whole, over, ceil}
+use Rattle.algebra.specs.Frac.{Frac, ◌≤F◌, Same, over, ceil}
 use Rattle.algebra.proofs.Frac.{trans, refl_≤}
 use Rattle.lines.specs.Lines.{Line, Rising, last, axles, IsTandem, Ahead, Summit}
 use Rattle.lines.specs.Facts.{TandemExists}

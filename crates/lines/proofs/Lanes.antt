@@ -1,7 +1,7 @@
 -- Turning the surface keeps T of a lane.
 use Rattle.std.proofs.Common.{◌≡◌, ℕ, ◌+◌, ◌-◌, ◌/◌, ◌≤◌, ℤ, pos, ◌+ℤ◌, refl, ap, ◌∙◌, ap₂, arith}
 use Rattle.std.proofs.lemmas.Int.{ints}
-use Rattle.surface.specs.Shape.{Shape, Lawful, end_for_end, side_for_side}
+use Rattle.surface.specs.Shape.{Shape, Lawful, side_for_side}
 use Rattle.lines.specs.Lines.{Rising, Agree}
 use Rattle.lines.specs.Axles.{axle_line}
 use Rattle.lines.specs.Facts.{TandemSideForSide, TandemEndForEnd}

@@ -8,7 +8,7 @@ use Rattle.algebra.specs.Frac.{◌≤F◌, ◌≈F◌, whole, ◌+F◌, ceil}
 use Rattle.algebra.proofs.Frac.{trans, adds, refl_≤}
 use Rattle.algebra.proofs.Round.{ceils, near}
 use Rattle.lines.specs.Segments.{Stretch, Apart, Loading, height, area, loaded_area, where_positive, gain, rounded, sign_changes}
-use Rattle.algebra.proofs.Ring.{var, num, ◌:+◌, ◌:*◌, differs}
+use Rattle.algebra.proofs.Ring.{var, ◌:+◌, ◌:*◌, differs}
 use Rattle.algebra.proofs.IntLaws.{up_product, down_product}
 
 -- the same sum over naturals, for a function of a place and of what is left behind it

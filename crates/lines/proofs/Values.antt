@@ -1,5 +1,5 @@
 -- The value of a line at a place, by any segment that holds it.
-use Rattle.std.proofs.Common.{◌≡◌, ℕ, zero, suc, ◌+◌, ◌-◌, ◌*◌, ◌<◌, ◌≤◌, cond, leb, sym, ap, subst, ⊎_elim, add-zero, mul-le-mul_right, le_of_mul-le-mul_right, arith}
+use Rattle.std.proofs.Common.{◌≡◌, ℕ, zero, suc, ◌+◌, ◌-◌, ◌*◌, ◌<◌, ◌≤◌, leb, sym, ap, subst, ⊎_elim, add-zero, mul-le-mul_right, le_of_mul-le-mul_right, arith}
 use Rattle.std.proofs.lemmas.Bool.{cases_lt, cases_order, cond_both, leb-true, leb-false}
 use Rattle.algebra.specs.Frac.{Same, whole}
 use Rattle.algebra.proofs.Frac.{same_refl, same_sym, same_trans}

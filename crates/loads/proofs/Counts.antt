@@ -1,5 +1,5 @@
 -- What a segment and a row count for, from the numbers as the code has them.
-use Rattle.std.proofs.Common.{◌≡◌, ℕ, suc, ◌+◌, ◌-◌, ◌*◌, ◌<◌, true, false, List, length, get_or, drop, ℤ, pos, negsuc, nat_abs, refl, ap, ◌∙◌, ap₂, arith, length-drop, w32, SFits, to_z, of_z}
+use Rattle.std.proofs.Common.{◌≡◌, ℕ, suc, ◌+◌, ◌-◌, ◌*◌, ◌<◌, true, false, List, length, get_or, ℤ, pos, negsuc, nat_abs, refl, ap, ◌∙◌, ap₂, arith, length-drop, w32, SFits, to_z, of_z}
 use lib.Signed.{le_z}
 use Rattle.std.proofs.lemmas.Int.{ints, to_z-of_z}
 use Rattle.std.proofs.lemmas.List.{get_or-drop}

@@ -1,5 +1,5 @@
 -- What is held of a surface: places and ordinates in lists, a row of ordinates to a slice.
-use Rattle.std.specs.Prelude.{◌≡◌, ℕ, ◌+◌, ◌-◌, ◌*◌, ◌<◌, ◌≤◌, List, length, get_or, drop, ℤ, pos, slice_index, slice_index_or, unsigned_abs}
+use Rattle.std.specs.Prelude.{◌≡◌, ℕ, ◌+◌, ◌*◌, ◌<◌, ◌≤◌, List, length, get_or, drop, ℤ, pos, slice_index, slice_index_or, unsigned_abs}
 use Rattle.surface.specs.Shape.{Shape}
 use Rattle.model.specs.Lanes.{wheels}
 use Rattle.lines.specs.Lines.{Line}

@@ -1,5 +1,5 @@
 -- The places that are tried for a tandem: the segments under its axles, and the best place so far.
-use Rattle.std.specs.Prelude.{◌≡◌, ℕ, ◌+◌, ◌-◌, ◌*◌, ◌<◌, ◌≤◌, ◌⊎◌, List, length, ℤ, pos, ◌*ℤ◌, ◌≤ℤ◌, Some, None, Option, slice_index, slice_index_or, unsigned_abs}
+use Rattle.std.specs.Prelude.{◌≡◌, ℕ, ◌+◌, ◌-◌, ◌*◌, ◌<◌, ◌≤◌, ◌⊎◌, List, length, pos, ◌*ℤ◌, ◌≤ℤ◌, Some, None, Option, slice_index, slice_index_or, unsigned_abs}
 use Rattle.algebra.specs.Frac.{Frac, Same, whole, over, ◌+F◌}
 use Rattle.lines.specs.Lines.{Line, last, axles, value_at, Ahead, Summit, Stands}
 use Rattle.loads.specs.declared.peaks.Peak.{Peak}

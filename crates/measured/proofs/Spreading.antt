@@ -1,11 +1,11 @@
 -- The count of paths before a slice says between which two paths it lies.
-use Rattle.std.proofs.Common.{◌≡◌, ℕ, zero, suc, ◌+◌, ◌-◌, ◌<◌, ◌≤◌, Bool, true, false, cond, eqb, ltb, ◌≢◌, List, length, get_or, take, ℤ, pos, refl, ap, ◌∙◌, ⊎_elim, add-zero, arith}
+use Rattle.std.proofs.Common.{◌≡◌, ℕ, zero, suc, ◌+◌, ◌-◌, ◌<◌, ◌≤◌, eqb, ltb, ◌≢◌, List, get_or, take, pos, refl, ap, ◌∙◌, ⊎_elim, add-zero, arith}
 use Rattle.std.proofs.lemmas.List.{length-take-le, get_or-take}
 use Rattle.std.proofs.lemmas.List.Sums.{prefix_len-le-length}
 use Rattle.std.proofs.lemmas.Bool.{cases_lt, cond-true, cond-false, eq-eqb, ne_eqb}
 use Rattle.measured.specs.Laid.{Laid}
 use Rattle.measured.specs.Mixes.{under, reached}
-use Rattle.measured.specs.Spread.{before, between, spread, spread_past}
+use Rattle.measured.specs.Spread.{before, between, spread_past}
 use Rattle.measured.specs.Spreading.{BetweenPaths, LeftOfPaths, RightOfPaths}
 
 module _ (n m : ℕ) (ps : List ℕ) (w : Laid n m ps) where

@@ -1,6 +1,6 @@
 -- The ordinate of every slice is in the range of the ordinates at the paths, so that filled rows make a lawful surface.
-use Rattle.std.specs.Prelude.{◌≡◌, ℕ, zero, suc, ◌+◌, ◌-◌, ◌*◌, ◌/◌, ◌<◌, ◌≤◌, Bool, true, false, cond, ltb, List, [], ◌∷◌, length, take, drop, ℤ, pos, ◌+ℤ◌, ◌*ℤ◌, ◌==◌, nat_lt, slice_index, slice_index_or, unsigned_abs, refl}
-use Rattle.std.proofs.Common.{ap, ◌∙◌, arith, one-add}
+use Rattle.std.specs.Prelude.{◌≡◌, ℕ, zero, suc, ◌+◌, ◌-◌, ◌*◌, ◌<◌, ◌≤◌, Bool, true, false, cond, ltb, List, [], ◌∷◌, length, take, drop, ℤ, pos, ◌+ℤ◌, ◌*ℤ◌, ◌==◌, nat_lt, slice_index, slice_index_or, unsigned_abs, refl}
+use Rattle.std.proofs.Common.{ap, arith, one-add}
 use Rattle.std.proofs.lemmas.List.{length-take, get_or-take}
 use Rattle.std.proofs.lemmas.List.Sums.{prefix_len-drop_yes, prefix_len-drop_no, prefix_len-drop_all, prefix_len-le-length}
 use Rattle.std.proofs.lemmas.Bool.{lt-ltb, le-ltb, ltb-true, ltb-false, eqb-false, cond_both}

@@ -11,7 +11,7 @@ use Rattle.model.specs.declared.tandems.Tandem.{Tandem}
 use Rattle.model.specs.declared.weights.Factors.{Factors}
 use Rattle.model.specs.declared.weights.LoadKind.{LoadKind}
 use Rattle.placing.specs.Kind.{Kind, Commutes}
-use Rattle.placing.specs.Placing.{Road, width, worth, Placement, Best, Won}
+use Rattle.placing.specs.Placing.{Road, width, Placement, Best, Won}
 
 -- A of each slice, T of a lane by the slice at which it begins, and the loads with their factors.
 pub record Loads : Type 0 where

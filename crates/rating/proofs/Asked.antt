@@ -1,5 +1,5 @@
 -- What a figure or a drawing tells, asked by the lengths of the lists to lend.
-use Rattle.std.proofs.Common.{◌≡◌, ℕ, ◌+◌, ◌-◌, ◌*◌, ◌<◌, ◌≤◌, min, Bool, true, false, cond, ◌&&◌, leb, List, [], ◌∷◌, ◌++◌, length, get_or, take, drop, replicate, Some, None, Option, sym, refl, ap, ◌∙◌, subst, ⊎_elim, arith}
+use Rattle.std.proofs.Common.{◌≡◌, ℕ, ◌+◌, ◌-◌, ◌*◌, ◌≤◌, min, Bool, true, false, leb, List, ◌++◌, length, get_or, take, replicate, Some, None, Option, sym, refl, ap, ◌∙◌, subst, ⊎_elim, arith}
 use Rattle.std.proofs.lemmas.List.{take-append-le, get_or_append_left, get_or-append_right, get_or-replicate, get_or_past, length-replicate}
 use Rattle.std.proofs.lemmas.Bool.{cases_lt}
 use Rattle.std.proofs.lemmas.Bool.Decides.{nat_tests}
@@ -14,7 +14,6 @@ use Rattle.card.specs.Bounds.{kerbs_fit}
 use Rattle.card.specs.Steps.{cause, duty_open, long_enough, unless}
 use Rattle.card.specs.declared.answers.Answer.{Answer}
 use Rattle.card.specs.declared.answers.Answer.TheVariants.{Refused, Rated}
-use Rattle.card.specs.declared.answers.Layout.{Layout}
 use Rattle.card.specs.declared.answers.Rating.{Rating}
 use Rattle.card.specs.declared.calls.Call.{Call}
 use Rattle.card.specs.declared.calls.Call.TheVariants.{Figure, Drawing}

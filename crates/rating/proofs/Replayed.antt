@@ -1,17 +1,16 @@
 -- A run of a whole list of calls keeps the promise.
-use Rattle.std.proofs.Common.{◌≡◌, ℕ, ◌<◌, ◌≤◌, Bool, true, false, leb, List, [], ◌∷◌, length, take, drop, Some, None, Ok, Err, Option, Result, sym, refl, ap, ◌∙◌, subst, arith}
+use Rattle.std.proofs.Common.{◌≡◌, ℕ, ◌≤◌, Bool, true, leb, List, length, None, Ok, Option, sym, ap, ◌∙◌, subst, arith}
 use Rattle.std.proofs.lemmas.List.{take_all}
 use Rattle.std.proofs.lemmas.Bool.Decides.{nat_tests}
 use Rattle.surface.specs.Shape.{Shape, Lawful}
 use Rattle.model.specs.declared.lanes.Carriageway.{Carriageway}
 use Rattle.card.specs.Bounds.{kerbs_fit}
-use Rattle.card.specs.Steps.{card_after, opening, open_cause, unless}
+use Rattle.card.specs.Steps.{card_after, opening, unless}
 use Rattle.card.specs.declared.answers.Answer.{Answer}
 use Rattle.card.specs.declared.calls.Call.{Call}
 use Rattle.card.specs.declared.entries.Card.{Card}
-use Rattle.card.specs.declared.fault.JobFault.{JobFault}
-use Rattle.card.specs.declared.fault.JobFault.TheVariants.{Kerbs, Short}
-use Rattle.statement.specs.Runs.{Told, Met, Whole, Replayed, duty_of, duty_told, unmade}
+use Rattle.card.specs.declared.fault.JobFault.TheVariants.{Kerbs}
+use Rattle.statement.specs.Runs.{Met, Replayed, duty_of, duty_told}
 use Rattle.statement.proofs.Runs.{fits_after, slices_after, whole_from_met}
 use Rattle.rating.proofs.Runs.{Sofar, nth_low}
 

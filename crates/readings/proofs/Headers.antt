@@ -1,6 +1,5 @@
 -- A header, from its fields to the draft that it begins or the fault that it is refused for.
-use Rattle.std.proofs.Common.{◌≡◌, ℕ, zero, suc, ◌+◌, ◌-◌, ◌^◌, ◌<◌, ◌≤◌, Bool, true, false, cond, ◌||◌, ltb, List, [], ◌∷◌, ◌++◌, length, get_or, take, drop, ℤ, pos, ◌+ℤ◌, neg_ℤ, nat_abs, Ok, Err, Result, sym, refl, ap, ◌∙◌, subst, ⊎_elim, arith, MatchResult}
-use borrow.Author.Differences.{ints}
+use Rattle.std.proofs.Common.{◌≡◌, ℕ, zero, suc, ◌+◌, ◌-◌, ◌<◌, ◌≤◌, Bool, true, false, ◌||◌, ltb, List, [], ◌∷◌, length, get_or, take, drop, ℤ, pos, ◌+ℤ◌, nat_abs, Ok, Err, Result, sym, refl, ap, ◌∙◌, subst, ⊎_elim, arith, MatchResult}
 use lib.Signed.{lt_z}
 use Rattle.std.proofs.lemmas.List.{ext_get_or, get_or-take, length-take-le, length-append}
 use Rattle.std.proofs.lemmas.Bool.{cases_lt, cond-true, lt-ltb}
@@ -10,7 +9,7 @@ use Rattle.surface.specs.Turns.{abs_neg}
 use Rattle.surface.specs.Verdict.{Granted, each_judged}
 use Rattle.surface.specs.declared.fault.SurfaceFault.{SurfaceFault}
 use Rattle.surface.specs.declared.fault.SurfaceFault.TheVariants.{Text, Counts}
-use Rattle.table.specs.Cells.{Cell, cell_of, content, written}
+use Rattle.table.specs.Cells.{Cell, cell_of, written}
 use Rattle.table.specs.Lines.{Line, FieldRead, joined}
 use Rattle.table.specs.Numbers.{Writes, unsigned, minus}
 use Rattle.table.specs.declared.fault.TextFault.{TextFault}
@@ -18,7 +17,7 @@ use Rattle.table.specs.declared.fault.TextFault.TheVariants.{Malformed}
 use Rattle.table.specs.declared.field.FieldEnd.{FieldEnd}
 use Rattle.table.proofs.Chains.{line_some}
 use Rattle.table.proofs.Numerals.{numeral_lt}
-use Rattle.readings.specs.Numbers.{Written, Held, Taken, Missed}
+use Rattle.readings.specs.Numbers.{Written, Taken, Missed}
 use Rattle.readings.specs.Runs.{SaysMm, ends, slices_of, Headed, Opened, HeaderRefused}
 use Rattle.readings.specs.Runs as runs
 use Rattle.readings.proofs.Progress.{first_read, written_length}

@@ -1,5 +1,5 @@
 -- A row, from its fields to the station that is taken or the fault that it is refused for.
-use Rattle.std.proofs.Common.{◌≡◌, ℕ, zero, suc, ◌+◌, ◌-◌, ◌<◌, ◌≤◌, List, [], ◌∷◌, length, get_or, take, drop, set, ℤ, pos, Ok, Err, sym, refl, ap, ◌∙◌, subst, arith}
+use Rattle.std.proofs.Common.{◌≡◌, ℕ, suc, ◌+◌, ◌-◌, ◌<◌, ◌≤◌, List, [], ◌∷◌, length, get_or, take, drop, set, ℤ, pos, Ok, Err, sym, ap, ◌∙◌, subst, arith}
 use Rattle.std.proofs.lemmas.List.{length-take, length-drop}
 use Rattle.measured.specs.Judged.{row_of, station_judged}
 use Rattle.measured.specs.declared.row.Row.{Row}
@@ -16,7 +16,7 @@ use Rattle.table.proofs.SecondPass.{read_advances}
 use Rattle.readings.specs.Numbers.{Written, Taken, Missed}
 use Rattle.readings.specs.Runs.{RowStops, RowTaken}
 use Rattle.readings.specs.Runs as runs
-use Rattle.readings.proofs.Headers.{taken_length, taken_all}
+use Rattle.readings.proofs.Headers.{taken_all}
 
 -- where a record is left, the next begins
 pub passes : {input : List ℕ} {e n : ℕ} → Leaves input e n → Passes (drop e input) (drop n input)

@@ -1,12 +1,11 @@
 -- A run's table half read: what is known before each row, and what a row adds.
-use Rattle.std.proofs.Common.{◌≡◌, ℕ, ◌+◌, ◌-◌, ◌<◌, ◌≤◌, List, [], ◌∷◌, ◌++◌, length, drop, set, ℤ, pos, Ok, sym, refl, ap, ◌∙◌, subst, arith}
+use Rattle.std.proofs.Common.{◌≡◌, ℕ, ◌+◌, ◌<◌, ◌≤◌, List, [], ◌∷◌, ◌++◌, length, drop, set, ℤ, pos, Ok, sym, refl, ap, ◌∙◌, subst, arith}
 use Rattle.std.proofs.lemmas.List.{drop_all, length-drop, length_push}
 use Rattle.measured.specs.Judged.{Begun, row_of, station_judged}
 use Rattle.measured.specs.declared.measured.Draft.{Draft}
 use Rattle.measured.specs.declared.row.Row.{Row}
 use Rattle.surface.specs.declared.fault.SurfaceFault.{SurfaceFault}
 use Rattle.surface.specs.declared.fault.SurfaceFault.TheVariants.{Text}
-use Rattle.table.specs.Cells.{Cell}
 use Rattle.table.specs.Lines.{LineRead, LineRefused}
 use Rattle.table.specs.Tables as tables
 use Rattle.table.specs.declared.fault.TextFault.{TextFault}
@@ -14,7 +13,7 @@ use Rattle.table.specs.declared.fault.TextFault.TheVariants.{Malformed, TooLong}
 use Rattle.table.specs.declared.line.LineEnd.{LineEnd}
 use Rattle.readings.specs.Runs.{Opened, Reached, RowTaken, RowStops, FilledBy, HeaderRefused, RunTaken, RunRefused, slices_of}
 use Rattle.readings.specs.Runs as runs
-use Rattle.readings.proofs.Headers.{taken_length, header_few}
+use Rattle.readings.proofs.Headers.{header_few}
 use Rattle.readings.proofs.Progress.{written_length}
 use Rattle.readings.proofs.Stations.{passes}
 

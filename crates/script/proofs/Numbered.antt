@@ -3,8 +3,8 @@ use Rattle.std.proofs.Common.{◌≡◌, ℕ, ◌<◌, ◌≤◌, List, [], ◌�
 use Rattle.table.specs.Cells.{Cell}
 use Rattle.card.specs.declared.calls.Call.TheVariants.{Factors as SetFactors, Reduce as CallReduce}
 use Rattle.card.specs.declared.calls.Lengths.{Lengths}
-use Rattle.readings.specs.Numbers.{Written, Held, Taken}
-use Rattle.readings.proofs.Progress.{taken_length}
+use Rattle.records.specs.Numbers.{Written, Held, Taken}
+use Rattle.records.proofs.Progress.{taken_length}
 use Rattle.script.specs.Calls.{setter_call, factors_of, lengths_of}
 use Rattle.script.specs.Words.{setter_count}
 use Rattle.script.specs.declared.words.Setter.{Setter}

@@ -5,7 +5,7 @@ use Rattle.table.specs.Cells.{Cell, content}
 use Rattle.table.specs.Numbers.{Writes, Counts}
 use Rattle.table.specs.declared.fault.TextFault.{TextFault}
 use Rattle.table.specs.declared.fault.TextFault.TheVariants.{Malformed}
-use Rattle.readings.specs.Numbers.{Written, Missed}
+use Rattle.records.specs.Numbers.{Written, Missed}
 use Rattle.card.specs.Ample.{ample}
 use Rattle.card.specs.declared.calls.Call.{Call}
 use Rattle.card.specs.declared.calls.Lengths.{Lengths}

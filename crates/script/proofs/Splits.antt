@@ -4,7 +4,7 @@ use Rattle.table.specs.Cells.{Cell, cell_of, content}
 use Rattle.table.specs.Lines.{Line, FieldRead}
 use Rattle.table.specs.declared.field.FieldEnd.{FieldEnd}
 use Rattle.table.proofs.Chains.{line_some}
-use Rattle.readings.proofs.Progress.{first_read}
+use Rattle.records.proofs.Progress.{first_read}
 use Rattle.script.specs.Lines.{Split, Says}
 
 pub split_first : (cs : List Cell) {input ys : List ℕ} {at r f rest : ℕ} {e : FieldEnd} → Line cs (drop at input) ys → FieldRead input at r f e → (e.next < length input → rest ≡ e.next + 1)

@@ -4,7 +4,7 @@ use Rattle.table.specs.Cells.{Cell, content}
 use Rattle.table.specs.Numbers.{Counts}
 use Rattle.table.specs.declared.fault.TextFault.{TextFault}
 use Rattle.table.specs.declared.fault.TextFault.TheVariants.{Malformed}
-use Rattle.readings.specs.Numbers.{Missed}
+use Rattle.records.specs.Numbers.{Missed}
 use Rattle.model.specs.declared.lanes.Carriageway.{Carriageway}
 use Rattle.model.specs.declared.weights.Factors.{Factors as FactorSet}
 use Rattle.model.specs.declared.weights.LoadKind.{LoadKind}

@@ -8,7 +8,7 @@ use Rattle.table.specs.Numbers.{Writes}
 use Rattle.table.specs.Tables.{Passes}
 use Rattle.table.specs.declared.fault.TextFault.{TextFault}
 use Rattle.table.specs.declared.fault.TextFault.TheVariants.{Malformed}
-use Rattle.readings.specs.Numbers.{Written, Missed}
+use Rattle.records.specs.Numbers.{Written, Missed}
 use Rattle.edge.specs.declared.station.Station.{Station}
 use Rattle.script.specs.Entries.{Entered, Stopped}
 use Rattle.script.specs.Stations.{StationSaid, StationUnsaid}

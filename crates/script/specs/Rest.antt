@@ -4,7 +4,7 @@ use Rattle.table.specs.Cells.{Cell}
 use Rattle.table.specs.Numbers.{Counts}
 use Rattle.table.specs.declared.fault.TextFault.{TextFault}
 use Rattle.table.specs.declared.fault.TextFault.TheVariants.{Malformed}
-use Rattle.readings.specs.Numbers.{Written, Missed}
+use Rattle.records.specs.Numbers.{Written, Missed}
 
 -- the fields write these natural numbers
 abbrev pub Naturals : List Cell → List ℕ → Type 0

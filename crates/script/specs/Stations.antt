@@ -4,7 +4,7 @@ use Rattle.table.specs.Cells.{Cell}
 use Rattle.table.specs.Numbers.{Writes}
 use Rattle.table.specs.declared.fault.TextFault.{TextFault}
 use Rattle.table.specs.declared.fault.TextFault.TheVariants.{Malformed}
-use Rattle.readings.specs.Numbers.{Written, Missed}
+use Rattle.records.specs.Numbers.{Written, Missed}
 use Rattle.edge.specs.declared.station.Station.{Station}
 
 abbrev pub StationSaid : List Cell → Station → Type 0

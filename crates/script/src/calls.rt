@@ -3,7 +3,7 @@ ghost use Rattle.std.specs.Prelude.{◌≡◌, ℕ, ◌+◌, ◌<◌, List, leng
 ghost use Rattle.table.specs.Cells.{Cell};
 ghost use Rattle.table.specs.Lines.{Line};
 ghost use Rattle.table.specs.Numbers.{Counts};
-ghost use Rattle.readings.specs.Numbers.{Missed};
+ghost use Rattle.records.specs.Numbers.{Missed};
 ghost use Rattle.script.specs.Calls.{Said, Unsaid, SetBy, LentBy, RatesBy, NotRated, factors_of, setter_call, rater_call};
 ghost use Rattle.script.specs.Rest.{NotNumbers};
 ghost use Rattle.script.specs.Words.{setter_count};
@@ -15,7 +15,7 @@ use crate::words::{Rater, Setter, Verb, kind_of, verb_of};
 use card::calls::{AMPLE, Call, Lengths};
 use model::lanes::Carriageway;
 use model::weights::{Factors, LoadKind};
-use readings::numbers::{MOST, read_numbers};
+use records::numbers::{MOST, read_numbers};
 use table::fault::TextFault;
 
 // How many lengths a rating may be given.

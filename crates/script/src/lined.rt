@@ -9,7 +9,7 @@ use crate::entries::read_entries;
 use crate::fault::ScriptFault;
 use crate::first::read_first;
 use edge::station::Station;
-use readings::numbers::{MOST, read_numbers};
+use records::numbers::{MOST, read_numbers};
 use std::alloc::Global;
 use table::fault::TextFault;
 use table::line::read_line;

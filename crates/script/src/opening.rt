@@ -7,7 +7,7 @@ ghost use Rattle.script.specs.Calls.{Opens, Unopened};
 use crate::first::read_first;
 use crate::rest::read_rest;
 use model::lanes::Carriageway;
-use readings::numbers::MOST;
+use records::numbers::MOST;
 use table::fault::TextFault;
 
 // How many numbers an opening has: the job's number, the first slice and the width.

@@ -1,12 +1,12 @@
 // The numbers that follow a word.
 ghost use Rattle.std.specs.Prelude.{◌≡◌, ℕ, ◌+◌, ◌<◌, ◌≤◌, List, length, drop, MatchResult};
-ghost use Rattle.readings.specs.Numbers.{Taken};
+ghost use Rattle.records.specs.Numbers.{Taken};
 ghost use Rattle.table.specs.Cells.{Cell};
 ghost use Rattle.table.specs.Lines.{Line};
 ghost use Rattle.table.specs.Numbers.{Counts};
 ghost use Rattle.script.specs.Rest.{NotNumbers};
 
-use readings::numbers::{MOST, read_numbers};
+use records::numbers::{MOST, read_numbers};
 use table::fault::TextFault;
 
 // Reads the numbers after the word of a record of so many fields; they begin at byte `from`, and a wrong number of them is told first.

@@ -4,7 +4,7 @@ ghost use Rattle.script.specs.Stations.{StationSaid, StationUnsaid};
 
 use crate::entries::Entry;
 use edge::station::Station;
-use readings::numbers::{MOST, read_numbers};
+use records::numbers::{MOST, read_numbers};
 use table::fault::TextFault;
 
 // How many fields a row has: a place and an ordinate.

@@ -3,7 +3,7 @@ use Rattle.std.proofs.Common.{◌≡◌, ℕ, List, [], length, sym, refl, ap, �
 use Rattle.table.specs.Cells.{Cell, content}
 use Rattle.table.specs.Numbers.{Counts}
 use Rattle.table.specs.declared.fault.TextFault.{TextFault}
-use Rattle.readings.proofs.Progress.{written_length}
+use Rattle.records.proofs.Progress.{written_length}
 use Rattle.model.specs.declared.weights.LoadKind.{LoadKind}
 use Rattle.card.specs.Ample.{ample}
 use Rattle.card.specs.declared.calls.Call.{Call}

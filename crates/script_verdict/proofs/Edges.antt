@@ -9,14 +9,14 @@ use Rattle.table.specs.Tables.{Passes}
 use Rattle.table.specs.declared.fault.TextFault.{TextFault}
 use Rattle.table.specs.declared.fault.TextFault.TheVariants.{Malformed}
 use Rattle.table.proofs.Chains.{line_unique, line_not_broken, broken_unique}
-use Rattle.readings.proofs.Progress.{written_length}
+use Rattle.records.proofs.Progress.{written_length}
 use Rattle.edge.specs.declared.station.Station.{Station}
 use Rattle.script.specs.Edges.{EdgeHeaded, EdgeUnheaded, EdgeBegins, EdgeRead, EdgeRefused}
 use Rattle.script.specs.Edges as edges
 use Rattle.script.specs.Entries.{Entered, Stopped}
 use Rattle.script.specs.Stations.{StationSaid, StationUnsaid}
 use Rattle.verdict.proofs.Chains.{passes_unique}
-use Rattle.verdict.proofs.Numbers.{whole-one, written_unique}
+use Rattle.records.proofs.Unique.{whole_one, written_unique}
 use Rattle.script_verdict.proofs.Entries.{entered_unique, entered_not, stopped_unique}
 use Rattle.script_verdict.proofs.Numbers.{missed_unique, missed_not}
 use Rattle.script_verdict.proofs.Stations.{station_one}
@@ -26,7 +26,7 @@ use Rattle.script_verdict.proofs.Stations.{station_one}
 headed_unique : (cs : List Cell) (n n' f f' g g' : ℤ) → EdgeHeaded cs n f g → EdgeHeaded cs n' f' g' → (n ≡ n') × (f ≡ f') × (g ≡ g')
 headed_unique [] n n' f f' g g' a b = absurd a
 headed_unique (c ∷ ds) n n' f f' g g' a b =
-    let same = written_unique Writes whole-one ds (n ∷ f ∷ g ∷ []) (n' ∷ f' ∷ g' ∷ []) a b in
+    let same = written_unique Writes whole_one ds (n ∷ f ∷ g ∷ []) (n' ∷ f' ∷ g' ∷ []) a b in
     let one : n ≡ n' = cc in
     let two : f ≡ f' = cc in
     let three : g ≡ g' = cc in

@@ -4,11 +4,11 @@ use Rattle.table.specs.Cells.{Cell}
 use Rattle.table.specs.Numbers.{Counts}
 use Rattle.table.specs.declared.fault.TextFault.{TextFault}
 use Rattle.table.specs.declared.fault.TextFault.TheVariants.{Malformed}
-use Rattle.readings.specs.Numbers.{Written, Missed}
-use Rattle.readings.proofs.Progress.{written_length}
+use Rattle.records.specs.Numbers.{Written, Missed}
+use Rattle.records.proofs.Progress.{written_length}
 use Rattle.script.specs.Rest.{Naturals, NotNumbers}
 use Rattle.script.specs.Rest as rest
-use Rattle.verdict.proofs.Numbers.{natural-one, written_unique, unwritten_unique, unwritten_not}
+use Rattle.records.proofs.Unique.{natural_one, written_unique, unwritten_unique, unwritten_not}
 
 module _ {V : Type 0} (W : List ℕ → V → Type 0) (cs : List Cell) (r f : ℕ) where
   pub missed_unique : (d e : TextFault) → Missed W cs r f d → Missed W cs r f e → d ≡ e
@@ -18,7 +18,7 @@ module _ {V : Type 0} (W : List ℕ → V → Type 0) (cs : List Cell) (r f : �
   missed_not vs e w m = unwritten_not W cs vs m.index w m.unwritten
 
 pub naturals_unique : (ds : List Cell) (ns ms : List ℕ) → Naturals ds ns → Naturals ds ms → ns ≡ ms
-naturals_unique = written_unique Counts natural-one
+naturals_unique = written_unique Counts natural_one
 
 pub not_numbers_unique : (rec n : ℕ) (ds : List Cell) (d e : TextFault) → NotNumbers rec n ds d → NotNumbers rec n ds e → d ≡ e
 not_numbers_unique rec n ds d e (rest.count h) (rest.count k) = refl

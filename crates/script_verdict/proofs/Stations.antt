@@ -3,11 +3,11 @@ use Rattle.std.proofs.Common.{◌≡◌, ℕ, List, [], ◌∷◌, ℤ, sym, ref
 use Rattle.table.specs.Cells.{Cell}
 use Rattle.table.specs.Numbers.{Writes}
 use Rattle.table.specs.declared.fault.TextFault.{TextFault}
-use Rattle.readings.proofs.Progress.{written_length}
+use Rattle.records.proofs.Progress.{written_length}
 use Rattle.edge.specs.declared.station.Station.{Station}
 use Rattle.script.specs.Stations.{StationSaid, StationUnsaid}
 use Rattle.script.specs.Stations as stations
-use Rattle.verdict.proofs.Numbers.{whole-one, written_unique}
+use Rattle.records.proofs.Unique.{whole_one, written_unique}
 use Rattle.script_verdict.proofs.Entries.{SaysOne}
 use Rattle.script_verdict.proofs.Numbers.{missed_unique, missed_not}
 
@@ -16,7 +16,7 @@ station_of p o = record { place = p; ordinate = o }
 
 station_unique : (cs : List Cell) (d e : Station) → StationSaid cs d → StationSaid cs e → d ≡ e
 station_unique cs d e a b =
-    let same = written_unique Writes whole-one cs (d.place ∷ d.ordinate ∷ []) (e.place ∷ e.ordinate ∷ []) a b in
+    let same = written_unique Writes whole_one cs (d.place ∷ d.ordinate ∷ []) (e.place ∷ e.ordinate ∷ []) a b in
     let place : d.place ≡ e.place = cc in
     let ordinate : d.ordinate ≡ e.ordinate = cc in
     ap (λ (p : ℤ). station_of p d.ordinate) place ∙ ap (station_of e.place) ordinate

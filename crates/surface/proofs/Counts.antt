@@ -1,5 +1,5 @@
 -- What the tests on counts and places say of the numbers.
-use Rattle.std.proofs.Common.{◌≡◌, ℕ, suc, ◌<◌, ◌≤◌, Bool, true, false, cond, ◌&&◌, eqb, ◌≢◌, ℤ, pos, negsuc, nat_abs, sym, refl, ◌∙◌, arith}
+use Rattle.std.proofs.Common.{◌≡◌, ℕ, ◌<◌, ◌≤◌, true, false, cond, eqb, ◌≢◌, ℤ, pos, negsuc, nat_abs, sym, refl, ◌∙◌, arith}
 use lib.Signed.{lt_z, le_z, non_neg}
 use Rattle.std.proofs.lemmas.Bool.{ltb-true, ltb-false, eqb-true, and_parts, cond-true, cond-false, eq-eqb, ne_eqb}
 use Rattle.surface.specs.Stations.{place_fits}

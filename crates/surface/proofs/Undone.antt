@@ -1,6 +1,6 @@
 -- Each turn undoes itself.
-use Rattle.std.proofs.Common.{◌≡◌, ℕ, zero, suc, ◌-◌, ◌<◌, ℤ, pos, negsuc, neg_ℤ, refl, ap, arith}
-use Rattle.surface.specs.Shape.{Shape, Lawful, side_for_side, end_for_end, opposite}
+use Rattle.std.proofs.Common.{◌≡◌, ℕ, zero, suc, ◌-◌, ℤ, pos, negsuc, neg_ℤ, refl, ap, arith}
+use Rattle.surface.specs.Shape.{Shape, Lawful, side_for_side, end_for_end}
 use Rattle.surface.specs.Turns.{place_rises}
 use Rattle.surface.specs.Undone.{Alike, TurnsUndone}
 

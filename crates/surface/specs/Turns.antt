@@ -1,6 +1,6 @@
 -- The turned shapes of a lawful shape are lawful.
 use Rattle.std.specs.Prelude.{◌≡◌, ℕ, zero, suc, ◌+◌, ◌-◌, ◌<◌, ◌≤◌, ℤ, pos, negsuc, neg_ℤ, unsigned_abs, refl}
-use Rattle.std.proofs.Common.{ap, subst, sym, arith, add-zero, add-suc}
+use Rattle.std.proofs.Common.{ap, arith, add-zero}
 use Rattle.surface.specs.Shape.{Shape, Lawful, side_for_side, end_for_end, opposite}
 
 -- ---- side for side

@@ -1,5 +1,5 @@
 -- Which field stands at the front of a list, or that none does, from what the loops over its bytes found.
-use Rattle.std.proofs.Common.{◌≡◌, ℕ, ◌+◌, ◌-◌, ◌<◌, ◌≤◌, List, [], ◌∷◌, ◌++◌, length, get_or, take, drop, Some, None, Option, sym, ap, ◌∙◌, subst, arith, length-append, take-append-drop, MatchOption}
+use Rattle.std.proofs.Common.{◌≡◌, ℕ, ◌+◌, ◌<◌, ◌≤◌, List, [], ◌∷◌, ◌++◌, length, get_or, take, drop, Some, None, Option, sym, ap, ◌∙◌, subst, arith, length-append, take-append-drop, MatchOption}
 use Rattle.std.specs.List.{AllByRecursion as All}
 use Rattle.std.proofs.lemmas.List.{length-take-le, drop-drop}
 use Rattle.table.specs.Cells.{Cell, plain, quoted, written, Bare, Stops, Paired, ClosedAt, Ends, Stands, InFront, MalformedAt}

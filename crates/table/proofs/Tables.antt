@@ -1,8 +1,8 @@
 -- A table that was read to its end is its records, rejoined by the format's rules.
 use Rattle.std.proofs.Common.{◌≡◌, ℕ, ◌<◌, List, [], ◌∷◌, ◌++◌, length, sym, refl, ap, ◌∙◌, append_assoc, arith}
 use Rattle.table.specs.Cells.{Cell}
-use Rattle.table.specs.Lines.{joined, Line}
-use Rattle.table.specs.Tables.{Passes, at_end, at_line, ReadUpTo, none, next, lines, Rejoined, closed, open_ended, ReadingRejoins}
+use Rattle.table.specs.Lines.{joined}
+use Rattle.table.specs.Tables.{at_end, at_line, ReadUpTo, none, next, lines, Rejoined, closed, open_ended, ReadingRejoins}
 
 lines_push : (rs : List (List Cell)) (cs : List Cell) (rest : List ℕ) → lines (rs ++ (cs ∷ [])) ++ rest ≡ lines rs ++ (joined cs ++ (13 ∷ 10 ∷ rest))
 lines_push [] cs rest = append_assoc (joined cs) (13 ∷ 10 ∷ []) rest

@@ -1,12 +1,12 @@
 -- Records read one after the other are determined by the text.
-use Rattle.std.proofs.Common.{◌≡◌, ℕ, ◌+◌, ◌<◌, ◌≤◌, List, [], ◌∷◌, ◌++◌, length, sym, refl, ap, ◌∙◌, subst, arith}
+use Rattle.std.proofs.Common.{◌≡◌, ℕ, ◌<◌, List, [], ◌∷◌, ◌++◌, length, sym, refl, ap, ◌∙◌, subst, arith}
 use Rattle.std.proofs.lemmas.List.{length_push, same_from_push}
 use Rattle.table.specs.Cells.{Cell}
 use Rattle.table.specs.Lines.{Line}
 use Rattle.table.specs.Tables.{Passes, at_end, at_line, ReadUpTo, none, next}
 use Rattle.table.proofs.Chains.{line_unique}
 
-passes_unique : (ys a b : List ℕ) → Passes ys a → Passes ys b → a ≡ b
+pub passes_unique : (ys a b : List ℕ) → Passes ys a → Passes ys b → a ≡ b
 passes_unique ys a b (at_end e d) (at_end e' d') = d ∙ sym d'
 passes_unique ys a b (at_end e d) (at_line e') = let z : ◌≡◌ {A = ℕ} 0 1 = cc in absurd (omega arith)
 passes_unique ys a b (at_line e) (at_end e' d') = let z : ◌≡◌ {A = ℕ} 0 1 = cc in absurd (omega arith)

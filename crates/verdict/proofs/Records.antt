@@ -1,5 +1,5 @@
 -- One record is taken or refused, never both, and for one fault.
-use Rattle.std.proofs.Common.{◌≡◌, ℕ, ◌+◌, ◌<◌, ◌≤◌, List, [], ◌∷◌, length, ℤ, pos, Ok, Err, sym, refl, ap, ◌∙◌, subst, arith}
+use Rattle.std.proofs.Common.{◌≡◌, ℕ, ◌+◌, List, ◌∷◌, length, ℤ, Ok, Err, sym, refl, ap, ◌∙◌, subst, arith}
 use Rattle.measured.specs.Judged.{header_judged, station_judged}
 use Rattle.measured.specs.declared.row.Row.{Row}
 use Rattle.surface.specs.Verdict.{Verdict}
@@ -15,10 +15,10 @@ use Rattle.readings.specs.Runs as runs
 use Rattle.readings.proofs.Progress.{written_length}
 use Rattle.verdict.proofs.Numbers.{written_unique, unwritten_unique, unwritten_not}
 
-clash : {v : Verdict} {f : SurfaceFault} → v ≡ Ok tt → v ≡ Err f → ⊥
+pub clash : {v : Verdict} {f : SurfaceFault} → v ≡ Ok tt → v ≡ Err f → ⊥
 clash a b = let z : ◌≡◌ {A = ℕ} 0 1 = cc in omega arith
 
-same_fault : (v : Verdict) (f g : SurfaceFault) → v ≡ Err f → v ≡ Err g → f ≡ g
+pub same_fault : (v : Verdict) (f g : SurfaceFault) → v ≡ Err f → v ≡ Err g → f ≡ g
 same_fault v f g a b = cc
 
 -- ---- the header

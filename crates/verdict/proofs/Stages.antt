@@ -1,8 +1,8 @@
 -- Two readings of one table: they agree as far as both go, and neither goes past a record that the other refuses.
-use Rattle.std.proofs.Common.{◌≡◌, ℕ, ◌+◌, ◌<◌, ◌≤◌, ◌⊎◌, List, [], ◌∷◌, ◌++◌, length, set, ℤ, pos, Ok, sym, refl, ap, ◌∙◌, subst, inl, inr, ⊎_elim, arith}
+use Rattle.std.proofs.Common.{◌≡◌, ℕ, ◌<◌, List, [], ◌∷◌, length, ℤ, Ok, sym, refl, ap, subst, ⊎_elim, arith}
 use Rattle.std.proofs.lemmas.List.{length_push, same_from_push}
 use Rattle.std.proofs.lemmas.Bool.{cases_lt}
-use Rattle.measured.specs.Judged.{row_of, station_judged}
+use Rattle.measured.specs.Judged.{station_judged}
 use Rattle.measured.specs.declared.row.Row.{Row}
 use Rattle.surface.specs.declared.fault.SurfaceFault.{SurfaceFault}
 use Rattle.table.specs.Cells.{Cell}
@@ -12,9 +12,9 @@ use Rattle.table.proofs.Chains.{line_unique}
 use Rattle.readings.specs.Numbers.{Written}
 use Rattle.readings.specs.Runs.{Headed, FilledBy, Reached, RowStops, HeaderStops}
 use Rattle.readings.specs.Runs as runs
-use Rattle.verdict.proofs.Chains.{same_read, Last, last_read, Front, front}
+use Rattle.verdict.proofs.Chains.{same_read, last_read, front}
 use Rattle.verdict.proofs.Numbers.{written_unique}
-use Rattle.verdict.proofs.Records.{headed_unique, row_one, row_never}
+use Rattle.verdict.proofs.Records.{headed_unique, row_never}
 
 -- the same records fill the same rows
 same_filled : {m : ℕ} {old rows rows' : List Row} {rs ss : List (List Cell)} → FilledBy m old rs rows → FilledBy m old ss rows' → rs ≡ ss → rows ≡ rows'

@@ -1,4 +1,4 @@
-use Rattle.std.proofs.Common.{◌≡◌, ◌+◌, ◌-◌, get_or, pos, arith}
+use Rattle.std.proofs.Common.{◌≡◌, ◌+◌, get_or, pos, arith}
 use Rattle.lines.specs.Areas.{area_to}
 use Rattle.lines.proofs.Areas.{area_small}
 use Rattle.loads.specs.Held.{line_of}

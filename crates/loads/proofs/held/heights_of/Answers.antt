@@ -1,4 +1,4 @@
-use Rattle.std.proofs.Common.{◌≡◌, ℕ, ◌+◌, ◌/◌, ◌%◌, ◌<◌, List, length, get_or, set, ℤ, pos, sym, ◌∙◌, subst, arith, length-set, below_more}
+use Rattle.std.proofs.Common.{◌≡◌, ℕ, ◌+◌, ◌/◌, ◌%◌, ◌<◌, List, length, get_or, ℤ, pos, sym, ◌∙◌, subst, arith, length-set, below_more}
 use Rattle.loads.proofs.Filling.{fill_more}
 use Rattle.loads.proofs.Numbers.{back}
 use Rattle.loads.proofs.held.heights_of.Goals as goal

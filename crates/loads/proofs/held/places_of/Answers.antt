@@ -1,4 +1,4 @@
-use Rattle.std.proofs.Common.{◌≡◌, ℕ, length, set, arith, length-set}
+use Rattle.std.proofs.Common.{◌≡◌, ℕ, arith, length-set}
 use Rattle.loads.proofs.Filling.{fill_more}
 use Rattle.loads.proofs.held.places_of.Goals as goal
 

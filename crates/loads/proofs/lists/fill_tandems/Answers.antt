@@ -1,6 +1,5 @@
 use Rattle.std.proofs.Common.{◌≡◌, ℕ, ◌-◌, List, length, get_or, take, sym, ap, subst, subst₂, arith, rules}
 use Rattle.model.proofs.Tables.{lane_range}
-use Rattle.model.specs.Lanes.{lane_slices}
 use Rattle.model.specs.Tandems.{no_tandem}
 use Rattle.loads.specs.Held.{Places, Rows}
 use Rattle.loads.specs.Grids.{stations_of}

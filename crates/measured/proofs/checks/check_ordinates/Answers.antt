@@ -1,4 +1,4 @@
-use Rattle.std.proofs.Common.{◌≡◌, ℕ, ◌+◌, ◌<◌, ◌≤◌, get_or, drop, pos, nat_abs, sym, ap, ◌∙◌, arith}
+use Rattle.std.proofs.Common.{ℕ, ◌+◌, ◌<◌, ◌≤◌, get_or, drop, pos, nat_abs, sym, ap, ◌∙◌, arith}
 use borrow.Author.Differences.{ints}
 use Rattle.measured.specs.Judged.{ordinates_judged}
 use Rattle.measured.proofs.Ordinates.{ordinates_bad, ordinates_more, ordinates_all}

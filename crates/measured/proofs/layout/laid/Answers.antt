@@ -1,4 +1,4 @@
-use Rattle.std.proofs.Common.{◌≡◌, ℕ, ◌<◌, List, map, length, get_or, set, replicate, ℤ, pos, nat_abs, sym, ap, ◌∙◌, arith, w32, to_z, of_z}
+use Rattle.std.proofs.Common.{◌≡◌, ℕ, ◌<◌, List, map, length, get_or, set, replicate, pos, nat_abs, sym, ap, ◌∙◌, arith, w32, to_z, of_z}
 use borrow.Author.Differences.{ints}
 use Rattle.std.proofs.lemmas.List.{get_or-map, length-map}
 use Rattle.measured.proofs.Padded.{copy_more, copy_all}

@@ -1,4 +1,4 @@
-use Rattle.std.proofs.Common.{◌≡◌, pos, arith, w32, w64, to_z, of_z}
+use Rattle.std.proofs.Common.{◌≡◌, pos, arith, w64, to_z, of_z}
 use borrow.Author.Differences.{ints}
 use Rattle.surface.proofs.Quotients.{quotient_within}
 use Rattle.measured.proofs.layout.rounded_down.Goals as goal

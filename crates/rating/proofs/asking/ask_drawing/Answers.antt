@@ -1,4 +1,4 @@
-use Rattle.std.proofs.Common.{◌≡◌, ◌-◌, length, ◌∙◌, arith, rules}
+use Rattle.std.proofs.Common.{◌≡◌, ◌-◌, length, ◌∙◌, rules}
 use borrow.Rule.Slice.PartMut.{mid_of}
 use Rattle.figures.specs.Lent.{lengths}
 use Rattle.rating.proofs.Asked.{cut_enough, told_drawing_cut}

@@ -1,13 +1,8 @@
-use Rattle.std.proofs.Common.{◌≡◌, ℕ, ◌-◌, ◌≤◌, List, ◌++◌, length, replicate, None, sym, refl, ap, ◌∙◌, subst, arith}
+use Rattle.std.proofs.Common.{◌-◌, ◌≤◌, length, replicate, None, sym, subst, arith}
 use Rattle.model.specs.Lanes.{breadth}
-use Rattle.model.specs.Tandems.{no_tandem}
-use Rattle.model.specs.declared.tandems.Tandem.{Tandem}
-use Rattle.card.specs.declared.answers.Answer.{Answer}
-use Rattle.card.specs.declared.answers.Answer.TheVariants.{Rated}
 use Rattle.card.specs.declared.fault.JobFault.TheVariants.{Kerbs, Short}
-use Rattle.statement.specs.Runs.{Told, Taken}
+use Rattle.statement.specs.Runs.{Taken}
 use Rattle.worths.specs.Kinds.{effect_kind}
-use Rattle.figures.specs.Lent.{lent, lengths}
 use Rattle.rating.proofs.Asked.{unless_none, enough_owners, taken, kept_layout}
 use Rattle.rating.proofs.asking.figure_over.Goals as goal
 

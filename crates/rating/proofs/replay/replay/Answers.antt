@@ -1,18 +1,13 @@
-use Rattle.std.proofs.Common.{◌≡◌, ℕ, ◌<◌, ◌≤◌, true, List, length, get_or, take, drop, Some, None, sym, refl, ap, ◌∙◌, subst, arith}
-use Rattle.std.proofs.lemmas.List.{get_or_default, take_all}
-use Rattle.std.specs.List.{slice_get}
-use Rattle.surface.specs.Shape.{Shape}
+use Rattle.std.proofs.Common.{◌≡◌, ℕ, ◌<◌, true, length, get_or, take, None, sym, ap, ◌∙◌, subst, arith}
+use Rattle.std.proofs.lemmas.List.{get_or_default}
 use Rattle.card.specs.Bounds.{kerbs_fit}
-use Rattle.card.specs.Steps.{card_after, opening, open_cause}
-use Rattle.card.specs.declared.answers.Answer.{Answer}
-use Rattle.card.specs.declared.calls.Call.{Call}
+use Rattle.card.specs.Steps.{card_after, opening}
 use Rattle.card.specs.declared.calls.Call.TheVariants.{Kerbs as SetKerbs}
 use Rattle.card.specs.declared.entries.Card.{Card}
 use Rattle.card.specs.declared.fault.JobFault.TheVariants.{Kerbs}
-use Rattle.statement.specs.Runs.{Told, Met, Whole}
-use Rattle.statement.proofs.Runs.{fits_after, slices_after, whole_from_met}
+use Rattle.statement.specs.Runs.{Told}
 use Rattle.rating.proofs.Asked.{unless_none}
-use Rattle.rating.proofs.Runs.{Sofar, sofar_more, nth_low}
+use Rattle.rating.proofs.Runs.{Sofar, sofar_more}
 use Rattle.rating.proofs.Replayed.{replayed, still_fits}
 use Rattle.rating.proofs.replay.replay.Goals as goal
 

@@ -1,14 +1,11 @@
-use Rattle.std.proofs.Common.{◌≡◌, ℕ, ◌+◌, ◌-◌, ◌<◌, ◌≤◌, List, [], length, get_or, take, ℤ, pos, ◌+ℤ◌, nat_abs, sym, refl, ap, ◌∙◌, arith, w32, to_z, of_z}
-use borrow.Author.Differences.{ints}
+use Rattle.std.proofs.Common.{◌≡◌, ℕ, ◌-◌, [], length, take, refl, ap, arith}
 use Rattle.std.proofs.lemmas.List.{nil_from_length}
 use Rattle.std.proofs.lemmas.Result.{err_from_is_err_and}
 use Rattle.surface.specs.declared.fault.SurfaceFault.TheVariants.{Counts}
-use Rattle.table.specs.Cells.{Cell}
-use Rattle.table.specs.Lines.{Line}
 use Rattle.table.proofs.Chains.{line_stands}
 use Rattle.readings.specs.Numbers.{Missed}
 use Rattle.readings.specs.Runs.{ends, slices_of}
-use Rattle.readings.proofs.Headers.{Split, split, line_few, refused_word, refused_number, refused_paths, opened, of_others, others_count, header_many, taken_length, taken_small, taken_slices, taken_all}
+use Rattle.readings.proofs.Headers.{split, line_few, refused_word, refused_number, refused_paths, opened, of_others, others_count, header_many, taken_length, taken_small, taken_slices, taken_all}
 use Rattle.readings.proofs.header.read_header.Goals as goal
 
 pub returns-in_err-word : goal.returns-in_err-word

@@ -1,10 +1,8 @@
-use Rattle.std.proofs.Common.{◌≡◌, ℕ, ◌+◌, ◌<◌, ◌≤◌, List, [], ◌∷◌, ◌++◌, length, drop, set, ℤ, sym, refl, ap, ◌∙◌, subst, arith, w32, SFits, to_z, of_z, rules}
+use Rattle.std.proofs.Common.{◌≡◌, ◌+◌, ◌<◌, List, [], ◌∷◌, ◌++◌, length, set, ℤ, sym, ap, ◌∙◌, subst, arith, w32, SFits, to_z, of_z, rules}
 use borrow.Author.Differences.{ints}
 use Rattle.std.proofs.lemmas.Result.{err_from_is_err_and}
-use Rattle.table.specs.Cells.{Cell}
-use Rattle.table.specs.Lines.{Line}
 use Rattle.readings.specs.Numbers.{Held}
-use Rattle.readings.proofs.Progress.{Progress, progress_none, progress_all, progress_stands, progress_missed, progress_more, held_set, held_past}
+use Rattle.readings.proofs.Progress.{progress_none, progress_all, progress_stands, progress_missed, progress_more, held_set, held_past}
 use Rattle.readings.proofs.numbers.read_numbers.Goals as goal
 use Rattle.readings.proofs.numbers.read_numbers.Goals.{then-i-lt-MOST, else-i-lt-MOST}
 

@@ -1,4 +1,4 @@
-use Rattle.std.proofs.Common.{◌≡◌, ℕ, ◌+◌, ◌-◌, length, get_or, take, drop, set, pos, sym, refl, ap, ◌∙◌, subst, arith, rules}
+use Rattle.std.proofs.Common.{◌≡◌, ℕ, ◌-◌, length, get_or, take, drop, set, pos, sym, refl, ap, ◌∙◌, arith}
 use Rattle.measured.specs.Judged.{row_of, station_judged}
 use Rattle.std.proofs.lemmas.Result.{err_from_is_err_and}
 use Rattle.readings.proofs.Stations.{stops_text, stops_fields, stops_number, stops_station, row_taken}

@@ -1,4 +1,4 @@
-use Rattle.std.proofs.Common.{◌≡◌, ◌-◌, ◌≤◌, length}
+use Rattle.std.proofs.Common.{◌≡◌, ◌-◌, length}
 use Rattle.readings.proofs.Underway.{Underway}
 use Rattle.readings.proofs.run.read_run.Given as goal
 

@@ -19,8 +19,8 @@ loop-j-preserved c =
     let before = c.if-owners-j-eq-OTHER.before in
     let counted : (before ≡ count_of owners (j + 1) 4) × (before ≤ j + 1) =
     elim c.if-owners-j-eq-OTHER.branch [
-      | then-owners-j-eq-OTHER w ↦ (let e = count_more owners j 4 w.if-owners-j-eq-OTHER.true in (omega (arith, w.before_is), omega (arith, w.before_is)))
-      | else-owners-j-eq-OTHER w ↦ (let e = count_same owners j 4 w.if-owners-j-eq-OTHER.false in (omega (arith, w.before_is), omega (arith, w.before_is)))
+      | then-owners-j-eq-OTHER w ↦ (let e = count_more owners j 4 w.if-owners-j-eq-OTHER.true in (omega (arith, w.before-is), omega (arith, w.before-is)))
+      | else-owners-j-eq-OTHER w ↦ (let e = count_same owners j 4 w.if-owners-j-eq-OTHER.false in (omega (arith, w.before-is), omega (arith, w.before-is)))
     ]
     in
     let listed : Listed (BeginsOther owners) (j + 1) (vec_items c.if-begins.starts) =

@@ -7,8 +7,8 @@ pub loop-i-preserved : goal.loop-i-preserved
 loop-i-preserved c =
     let owners = c.args.owners.now in
     elim c.if-owners-i.branch [
-      | then-owners-i w ↦ (let e = count_more owners c.loop-i.i c.args.owner w.if-owners-i.true in (omega (arith, w.count_is), omega (arith, w.count_is)))
-      | else-owners-i w ↦ (let e = count_same owners c.loop-i.i c.args.owner w.if-owners-i.false in (omega (arith, w.count_is), omega (arith, w.count_is)))
+      | then-owners-i w ↦ (let e = count_more owners c.loop-i.i c.args.owner w.if-owners-i.true in (omega (arith, w.count-is), omega (arith, w.count-is)))
+      | else-owners-i w ↦ (let e = count_same owners c.loop-i.i c.args.owner w.if-owners-i.false in (omega (arith, w.count-is), omega (arith, w.count-is)))
     ]
 
 pub loop-i-init : goal.loop-i-init

@@ -1,6 +1,6 @@
 use Rattle.std.proofs.Common.{◌≡◌, ap, ◌∙◌, subst}
 use Rattle.std.proofs.lemmas.Result.{err_from_is_err_and}
-use Rattle.readings.proofs.Progress.{taken_length}
+use Rattle.records.proofs.Progress.{taken_length}
 use Rattle.script.proofs.Numbered.{same_lengths}
 use Rattle.script.proofs.calls.read_lengths.Goals as goal
 

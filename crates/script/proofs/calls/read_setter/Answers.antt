@@ -1,6 +1,6 @@
 use Rattle.std.proofs.Common.{◌≡◌, ℕ, ap, ◌∙◌, subst}
 use Rattle.std.proofs.lemmas.Result.{err_from_is_err_and}
-use Rattle.readings.proofs.Progress.{taken_length}
+use Rattle.records.proofs.Progress.{taken_length}
 use Rattle.script.specs.Rest.{NotNumbers}
 use Rattle.script.proofs.Numbered.{same_call}
 use Rattle.script.proofs.calls.read_setter.Goals as goal

@@ -1,4 +1,4 @@
-use Rattle.std.proofs.Common.{◌≡◌, ◌∙◌, arith}
+use Rattle.std.proofs.Common.{arith}
 use borrow.Author.Differences.{ints}
 use Rattle.survey.proofs.Ranges.{station_more}
 use Rattle.survey.proofs.extent.slice_range.Goals as goal

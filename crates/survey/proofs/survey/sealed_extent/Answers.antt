@@ -1,4 +1,4 @@
-use Rattle.std.proofs.Common.{◌≡◌, ℕ, List, subst}
+use Rattle.std.proofs.Common.{ℕ, List, subst}
 use Rattle.measured.specs.Rows.{rows_shape}
 use Rattle.measured.specs.declared.layout.Layout.{Layout}
 use Rattle.measured.specs.declared.row.Row.{Row}

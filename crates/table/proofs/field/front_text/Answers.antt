@@ -1,6 +1,6 @@
 -- The first byte tells whether the field is quoted.
 use Rattle.std.proofs.Common.{ℕ, ◌-◌, List, length, take, drop, sym, subst, arith, MatchOption}
-use Rattle.table.specs.Cells.{quoted, cell_of, InFront, MalformedAt}
+use Rattle.table.specs.Cells.{cell_of, InFront, MalformedAt}
 use Rattle.table.proofs.Turns.{begins_with}
 use Rattle.table.proofs.Fronts.{either_way, only_quoted, only_plain}
 use Rattle.table.proofs.field.front_text.Goals as goal

@@ -1,4 +1,4 @@
-use Rattle.std.proofs.Common.{◌≡◌, ◌+◌, ◌-◌, ◌<◌, ◌≤◌, ltb, get_or, take, drop}
+use Rattle.std.proofs.Common.{◌≡◌, ◌+◌, ◌-◌, ◌<◌, ltb, get_or, take, drop}
 use Rattle.std.specs.List.{prefix_len}
 use Rattle.measured.specs.Spread.{before}
 use Rattle.measured.proofs.layout.Layout.paths_before.Given as goal
