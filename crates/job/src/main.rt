@@ -1,7 +1,7 @@
 // Runs the script of a whole job from standard input, and prints what each record of it answers.
 #![tactic(auto)]
 
-use scripted::script::run_script;
+use scripted::whole::run_script;
 use std::io::Read;
 use table::line::LONGEST;
 

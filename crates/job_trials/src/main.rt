@@ -1,7 +1,7 @@
 // Runs the stored scripts one after the other, through what `job` runs.
 #![tactic(auto)]
 
-use scripted::script::run_script;
+use scripted::whole::run_script;
 use std::fs;
 
 // How many scripts are stored, numbered from 1.

@@ -1,5 +1,5 @@
 // Worked answers.
-use crate::lines::sheet_text;
+use crate::text::sheet_text;
 use std::test::Fail;
 
 #[test]

@@ -1,7 +1,7 @@
 // Runs the stored tables through what `sheet` prints, one after the other.
 #![tactic(auto)]
 
-use rated::lines::sheet_text;
+use rated::text::sheet_text;
 use std::fs;
 
 // How many tables are stored, numbered from 1.

@@ -4,7 +4,7 @@
 mod asking;
 mod bounds;
 pub mod duty;
-pub mod figures;
+pub mod effects;
 pub mod job;
 pub mod replay;
 pub mod setting;

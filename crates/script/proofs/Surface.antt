@@ -1,6 +1,6 @@
 -- The surface's part of a script, record by record.
 use Rattle.std.proofs.Common.{◌≡◌, ℕ, zero, suc, ◌+◌, ◌<◌, ◌≤◌, Bool, List, [], ◌∷◌, ◌++◌, length, drop, Decides, sym, refl, ap, ◌∙◌, subst, arith}
-use Rattle.std.specs.List.{AllByRecursion as All}
+use Rattle.std.specs.List.{AllByRecursion}
 use Rattle.std.proofs.lemmas.List.{drop_all, length-drop, length_push}
 use Rattle.table.specs.Cells.{Cell}
 use Rattle.table.specs.Lines.{Line, LineRead, LineRefused}
@@ -31,7 +31,7 @@ pub record Sofar (input : List ℕ) (at number : ℕ) : Type 0 where
 pub sofar_none : (input : List ℕ) → Sofar input 0 1
 sofar_none input = record { records = []; reads = tables.none; stays = tt; none_yet = λ _. refl; some_read = λ h. absurd (omega arith); within = omega arith; counted = refl; onward = omega arith }
 
-all_push : {A : Type 0} (P : A → Type 0) (xs : List A) (x : A) → All P xs → P x → All P (xs ++ (x ∷ []))
+all_push : {A : Type 0} (P : A → Type 0) (xs : List A) (x : A) → AllByRecursion P xs → P x → AllByRecursion P (xs ++ (x ∷ []))
 all_push P [] x a p = (p, tt)
 all_push P (y ∷ xs) x a p = (a.0, all_push P xs x a.1 p)
 

@@ -1,6 +1,6 @@
 -- The surface's part of a script.
 use Rattle.std.specs.Prelude.{ℕ, ◌+◌, ◌⊎◌, List, [], ◌∷◌, length, drop}
-use Rattle.std.specs.List.{AllByRecursion as All}
+use Rattle.std.specs.List.{AllByRecursion}
 use Rattle.table.specs.Cells.{Cell}
 use Rattle.table.specs.Lines.{Line, Broken}
 use Rattle.table.specs.Tables.{ReadUpTo}
@@ -16,7 +16,7 @@ LeadsOn cs = Says cs turned_word ⊎ Says cs open_word
 -- none of the records after the first does
 abbrev pub Stays : List (List Cell) → Type 0
 Stays [] = Unit {0}
-Stays (r ∷ rs) = All (λ cs. LeadsOn cs → ⊥) rs
+Stays (r ∷ rs) = AllByRecursion (λ cs. LeadsOn cs → ⊥) rs
 
 -- the part ends at this byte, and the record after it has the number next: before the first record after the first that begins so,
 -- or with the script, where there is none before its end or before a record that does not stand

@@ -1,6 +1,6 @@
 -- Where the surface's part of a script ends is determined.
 use Rattle.std.proofs.Common.{◌≡◌, ℕ, zero, suc, ◌+◌, ◌<◌, List, [], ◌∷◌, length, get_or, drop, refl, ap, subst, ⊎_elim, arith}
-use Rattle.std.specs.List.{AllByRecursion as All}
+use Rattle.std.specs.List.{AllByRecursion}
 use Rattle.std.proofs.lemmas.List.{drop_all, length-drop}
 use Rattle.std.proofs.lemmas.Bool.{cases_lt}
 use Rattle.table.specs.Cells.{Cell, plain}
@@ -12,7 +12,7 @@ use Rattle.script.specs.Parts as parts
 use Rattle.verdict.proofs.Chains.{same_read}
 use Rattle.script_verdict.proofs.Readings.{ahead, level, line_empty}
 
-stays_at : (rs : List (List Cell)) (k : ℕ) → k < length rs → All (λ cs. LeadsOn cs → ⊥) rs → LeadsOn (get_or rs k []) → ⊥
+stays_at : (rs : List (List Cell)) (k : ℕ) → k < length rs → AllByRecursion (λ cs. LeadsOn cs → ⊥) rs → LeadsOn (get_or rs k []) → ⊥
 stays_at [] k h a = absurd (omega arith)
 stays_at (r ∷ rs) zero h a = a.0
 stays_at (r ∷ rs) (suc k) h a = stays_at rs k (omega arith) a.1

@@ -3,5 +3,5 @@
 
 mod answers;
 pub mod ran;
-pub mod script;
+pub mod whole;
 mod turning;

@@ -1,6 +1,6 @@
 -- Where a field ends is determined by its bytes: the text that stands at the front, and what follows it, are unique.
 use Rattle.std.proofs.Common.{◌≡◌, ℕ, List, [], ◌∷◌, ◌++◌, sym, refl, ap, ◌∙◌, subst, append_assoc, arith}
-use Rattle.std.specs.List.{AllByRecursion as All}
+use Rattle.std.specs.List.{AllByRecursion}
 use Rattle.table.specs.Cells.{Cell, plain, quoted, written, Bare, Stops, Unquoted, Paired, empty, pair, other, at_end, at_line, Ends, at_comma, at_close, Stands}
 
 pub ends_stop : (ys : List ℕ) → Ends ys → Stops ys
@@ -14,7 +14,7 @@ ends_unquoted ys (at_close (at_end e)) ws f = let z : ◌≡◌ {A = ℕ} 0 1 = 
 ends_unquoted ys (at_close (at_line zs e)) ws f = let z : ◌≡◌ {A = ℕ} 13 34 = cc in omega arith
 
 -- bare bytes up to one that is not bare
-pub bare_cut : (bs cs ys zs : List ℕ) → All Bare bs → All Bare cs → Stops ys → Stops zs → bs ++ ys ≡ cs ++ zs → (bs ≡ cs) × (ys ≡ zs)
+pub bare_cut : (bs cs ys zs : List ℕ) → AllByRecursion Bare bs → AllByRecursion Bare cs → Stops ys → Stops zs → bs ++ ys ≡ cs ++ zs → (bs ≡ cs) × (ys ≡ zs)
 bare_cut [] [] ys zs p q s t e = (refl, e)
 bare_cut [] (c ∷ cs) ys zs p q s t e = absurd (s c (cs ++ zs) e q.0)
 bare_cut (b ∷ bs) [] ys zs p q s t e = absurd (t b (bs ++ ys) (sym e) p.0)

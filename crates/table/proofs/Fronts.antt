@@ -1,16 +1,16 @@
 -- Which field stands at the front of a list, or that none does, from what the loops over its bytes found.
 use Rattle.std.proofs.Common.{◌≡◌, ℕ, ◌+◌, ◌<◌, ◌≤◌, List, [], ◌∷◌, ◌++◌, length, get_or, take, drop, Some, None, Option, sym, ap, ◌∙◌, subst, arith, length-append, take-append-drop, MatchOption}
-use Rattle.std.specs.List.{AllByRecursion as All}
+use Rattle.std.specs.List.{AllByRecursion}
 use Rattle.std.proofs.lemmas.List.{length-take-le, drop-drop}
 use Rattle.table.specs.Cells.{Cell, plain, quoted, written, Bare, Stops, Paired, ClosedAt, Ends, Stands, InFront, MalformedAt}
 use Rattle.table.proofs.Cuts.{ends_stop, ends_unquoted, bare_cut, paired_cut, paired_open, written_quoted, not_plain}
 
-pub plain_stands : (xs : List ℕ) (n : ℕ) → n ≤ length xs → All Bare (take n xs) → Ends (drop n xs) → InFront (plain (take n xs)) xs
+pub plain_stands : (xs : List ℕ) (n : ℕ) → n ≤ length xs → AllByRecursion Bare (take n xs) → Ends (drop n xs) → InFront (plain (take n xs)) xs
 plain_stands xs n l b e =
     subst (λ m. Stands (plain (take n xs)) xs (drop m xs)) (sym (length-take-le n xs l))
     (record { splits = sym (take-append-drop n xs); sound = b; ends = e })
 
-pub plain_none : (xs : List ℕ) (n : ℕ) → All Bare (take n xs) → Stops (drop n xs) → (Ends (drop n xs) → ⊥) → (bs ys : List ℕ) → Stands (plain bs) xs ys → ⊥
+pub plain_none : (xs : List ℕ) (n : ℕ) → AllByRecursion Bare (take n xs) → Stops (drop n xs) → (Ends (drop n xs) → ⊥) → (bs ys : List ℕ) → Stands (plain bs) xs ys → ⊥
 plain_none xs n b stops open-end bs ys s =
     let r = bare_cut bs (take n xs) ys (drop n xs) s.sound b (ends_stop ys s.ends) stops (sym s.splits ∙ sym (take-append-drop n xs)) in
     open-end (subst Ends r.1 s.ends)

@@ -3,7 +3,7 @@ use Rattle.std.proofs.Common.{◌≡◌, ℕ, zero, suc, ◌+◌, ◌-◌, ◌*�
 use native.Mathlib.Nat.{pow-le-pow_right}
 use lib.IntN.{+ℤ_idl}
 use Rattle.std.proofs.lemmas.Int.{to_z_pos}
-use Rattle.std.specs.List.{AllByRecursion as All}
+use Rattle.std.specs.List.{AllByRecursion}
 use Rattle.std.proofs.ByRecursion.{All-get_or}
 use Rattle.std.proofs.lemmas.List.{length_push, length-take-le, take_more}
 use Rattle.table.proofs.Turns.{begins_with}
@@ -18,7 +18,7 @@ value_push (b ∷ bs) d =
     let power : 10 ^ length (bs ++ (d ∷ [])) ≡ 10 ^ length bs * 10 = ap (λ n. 10 ^ n) (size ∙ on) ∙ pow-suc 10 (length bs) in
     rw (power, more) (omega arith)
 
-pub value_lt : (ds : List ℕ) → All Digit ds → value ds < 10 ^ length ds
+pub value_lt : (ds : List ℕ) → AllByRecursion Digit ds → value ds < 10 ^ length ds
 value_lt [] h = omega arith
 value_lt (b ∷ bs) h =
     let less = value_lt bs h.1 in
@@ -35,7 +35,7 @@ pub value_more : (bs : List ℕ) (i : ℕ) → i < length bs → value (take (i 
 value_more bs i l = ap value (take_more bs i 0 l) ∙ value_push (take i bs) (get_or bs i 0)
 
 -- before the last of nineteen digits there is room for one more in 64 bits
-pub room : (bs : List ℕ) (i : ℕ) → i < length bs → length bs ≤ 19 → All Digit (take i bs) → value (take i bs) < 10 ^ 18
+pub room : (bs : List ℕ) (i : ℕ) → i < length bs → length bs ≤ 19 → AllByRecursion Digit (take i bs) → value (take i bs) < 10 ^ 18
 room bs i l few h =
     let size = length-take-le i bs (omega arith) in
     let short : length (take i bs) ≤ 18 = omega arith in

@@ -1,6 +1,6 @@
 -- A field of a table by the format's rules: how it is written, which fields are sound, and where one stands.
 use Rattle.std.specs.Prelude.{◌≡◌, ℕ, ◌+◌, ◌<◌, List, [], ◌∷◌, ◌++◌, length, take, drop, ◌≢◌}
-use Rattle.std.specs.List.{AllByRecursion as All}
+use Rattle.std.specs.List.{AllByRecursion}
 use Rattle.table.specs.declared.field.Text.{Text}
 use Rattle.table.specs.declared.field.Text.TheVariants.{Plain, Quoted}
 
@@ -43,7 +43,7 @@ pub data Paired : List ℕ → Type 0 where
 
 -- a bare field has only bare bytes; between quotes every byte may stand, a quote twice
 abbrev pub Sound : Cell → Type 0
-Sound (plain bs) = All Bare bs
+Sound (plain bs) = AllByRecursion Bare bs
 Sound (quoted bs) = Paired bs
 
 -- what may follow a record: the end of the table, or CR LF

@@ -1,6 +1,6 @@
 -- A record of a table by the format's rules: sound fields with commas between them, up to CR LF or the end.
 use Rattle.std.specs.Prelude.{◌≡◌, ℕ, ◌+◌, ◌<◌, ◌≤◌, List, [], ◌∷◌, ◌++◌, length, drop}
-use Rattle.std.specs.List.{AllByRecursion as All}
+use Rattle.std.specs.List.{AllByRecursion}
 use Rattle.table.specs.declared.fault.TextFault.{TextFault}
 use Rattle.table.specs.declared.fault.TextFault.TheVariants.{Malformed, TooLong}
 use Rattle.table.specs.declared.field.FieldEnd.{FieldEnd}
@@ -20,7 +20,7 @@ joined (t ∷ u ∷ us) = written t ++ (44 ∷ joined (u ∷ us))
 -- the fields ts make the record at the front of xs, and ys is what follows it
 pub record Line (ts : List Cell) (xs ys : List ℕ) : Type 0 where
   pub splits : xs ≡ joined ts ++ ys
-  pub sound : All Sound ts
+  pub sound : AllByRecursion Sound ts
   pub some : 1 ≤ length ts
   pub closes : Closes ys
 
@@ -32,7 +32,7 @@ led (t ∷ ts) = written t ++ (44 ∷ led ts)
 -- xs begins with the fields ts and a comma after each, and ys is what follows
 pub record Begins (ts : List Cell) (xs ys : List ℕ) : Type 0 where
   pub splits : xs ≡ led ts ++ ys
-  pub sound : All Sound ts
+  pub sound : AllByRecursion Sound ts
 
 -- the first field that does not stand is the f-th of those from xs on
 pub record Broken (xs : List ℕ) (f : ℕ) : Type 0 where

@@ -1,6 +1,6 @@
 -- Which bytes write a whole number, and which number they write.
 use Rattle.std.specs.Prelude.{◌≡◌, ℕ, ◌+◌, ◌-◌, ◌*◌, ◌^◌, ◌<◌, ◌≤◌, List, [], ◌∷◌, length, ℤ, pos, neg_ℤ}
-use Rattle.std.specs.List.{AllByRecursion as All}
+use Rattle.std.specs.List.{AllByRecursion}
 
 abbrev pub Digit : ℕ → Type 0
 Digit b = (48 ≤ b) × (b ≤ 57)
@@ -12,7 +12,7 @@ value (b ∷ bs) = (b - 48) * 10 ^ length bs + value bs
 
 -- from one to `most` digits, and they write n
 pub record Numeral (most : ℕ) (bs : List ℕ) (n : ℕ) : Type 0 where
-  pub digits : All Digit bs
+  pub digits : AllByRecursion Digit bs
   pub some : 1 ≤ length bs
   pub few : length bs ≤ most
   pub writes : n ≡ value bs

@@ -1,6 +1,6 @@
 // One field of a table, and the reader that finds where it ends.
 ghost use Rattle.std.specs.Prelude.{◌≡◌, ℕ, ◌+◌, ◌^◌, ◌<◌, ◌≤◌, List, ◌∷◌, length, take, drop, Decides, MatchOption, MatchResult};
-ghost use Rattle.std.specs.List.{AllByRecursion as All};
+ghost use Rattle.std.specs.List.{AllByRecursion};
 ghost use Rattle.table.specs.Cells.{cell_of, content, written, Bare, Stops, Paired, ClosedAt, Ends, Stands, InFront, MalformedAt, plain, quoted};
 ghost use Rattle.table.specs.Lines.{FieldRead};
 
@@ -148,7 +148,7 @@ fn is_bare(byte: u8) -> bool
 // How many bare bytes stand at the front.
 fn bare_length(rest: &[u8]) -> usize
     ensures within { result ≤ length rest.now }
-    ensures bare { All Bare (take result rest.now) }
+    ensures bare { AllByRecursion Bare (take result rest.now) }
     ensures stops { Stops (drop result rest.now) }
 {
     for (i, byte) in rest.iter().enumerate() {

@@ -1,6 +1,6 @@
 -- A turn passes a bare byte, and the first that is not bare stops the count.
 use Rattle.std.proofs.Common.{◌≡◌, ℕ, length, take, subst, arith}
-use Rattle.std.specs.List.{AllByRecursion as All}
+use Rattle.std.specs.List.{AllByRecursion}
 use Rattle.std.proofs.ByRecursion.{All-more}
 use Rattle.std.proofs.lemmas.List.{drop_all}
 use Rattle.std.proofs.lemmas.Bool.{both_ways}
@@ -24,6 +24,6 @@ returns c =
     let all : c.loop-i.i ≡ length xs = omega (arith, c.loop-i.auto.i-end) in
     record {
       within = omega arith;
-      bare = subst (λ n. All Bare (take n xs)) all c.loop-i.invariant;
+      bare = subst (λ n. AllByRecursion Bare (take n xs)) all c.loop-i.invariant;
       stops = λ b ys e bare. let d = drop_all (length xs) xs (omega arith) in let z : ◌≡◌ {A = ℕ} 0 1 = cc in omega arith;
     }

@@ -3,7 +3,7 @@ use Rattle.std.proofs.Common.{◌+◌, ◌-◌, ◌*◌, ◌^◌, ◌<◌, get_o
 use Rattle.std.proofs.ByRecursion.{All-more}
 use Rattle.std.proofs.lemmas.List.{take_all}
 use Rattle.table.specs.Numbers.{Digit, value}
-use Rattle.std.specs.List.{AllByRecursion as All}
+use Rattle.std.specs.List.{AllByRecursion}
 use Rattle.table.proofs.Numerals.{value_more, room, no_digit}
 use Rattle.table.proofs.number.digits.Goals as goal
 use Rattle.table.proofs.number.digits.Goals.{then-byte-lt48-via-then-byte-lt48, then-byte-lt48-via-else-byte-lt48+then-byte-gt57, Else-byte-gt57}
@@ -41,7 +41,7 @@ returns c =
     let xs = c.args.bytes.now in
     let all = take_all c.loop-byte.byte-index xs c.loop-byte-test.false in
     record {
-      digits = subst (All Digit) all c.loop-byte.invariant.0;
+      digits = subst (AllByRecursion Digit) all c.loop-byte.invariant.0;
       some = omega arith;
       few = omega arith;
       writes = c.loop-byte.invariant.1 ∙ ap value all;

@@ -5,7 +5,7 @@ use Rattle.rated.proofs.Pairs.{two}
 use Rattle.std.proofs.lemmas.Result.{IfOk-weaker}
 use Rattle.report.specs.Texts.{refusal_text}
 use Rattle.rated.specs.Texts as texts
-use Rattle.rated.proofs.lines.sheet_text.Goals as goal
+use Rattle.rated.proofs.text.sheet_text.Goals as goal
 
 pub returns-in-Ok : goal.returns-in-Ok
 returns-in-Ok c =

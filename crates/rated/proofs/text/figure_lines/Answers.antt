@@ -1,5 +1,5 @@
 use Rattle.std.proofs.lemmas.Result.{IfOk-weaker}
-use Rattle.rated.proofs.lines.figure_lines.Goals as goal
+use Rattle.rated.proofs.text.figure_lines.Goals as goal
 
 pub returns : goal.returns
 returns c =

@@ -1,7 +1,7 @@
 use Rattle.std.proofs.Common.{◌≡◌, vec_items, arith, w32, SFits, to_z, of_z, rules}
 use borrow.Author.Differences.{ints}
 use Rattle.scripted.proofs.Judged.{made_over, refused_over}
-use Rattle.scripted.proofs.script.run_lined.Goals as goal
+use Rattle.scripted.proofs.whole.run_lined.Goals as goal
 
 pub returns-in-Ok : goal.returns-in-Ok
 returns-in-Ok c =

@@ -6,7 +6,7 @@ use Rattle.script.specs.declared.fault.ScriptFault.TheVariants.{Told}
 use Rattle.scripted.specs.Scripts.{ScriptRefused}
 use Rattle.scripted.specs.Scripts as scripts
 use Rattle.scripted.proofs.Judged.{unread_ran}
-use Rattle.scripted.proofs.script.run_script.Goals as goal
+use Rattle.scripted.proofs.whole.run_script.Goals as goal
 
 pub returns-in-Err : goal.returns-in-Err
 returns-in-Err c =

@@ -1,7 +1,7 @@
 use Rattle.scripted.specs.Scripts as scripts
 use Rattle.script.specs.Scripts.{LinedRefused}
 use Rattle.scripted.proofs.Judged.{lined_ran, unread_ran}
-use Rattle.scripted.proofs.script.run_edge.Goals as goal
+use Rattle.scripted.proofs.whole.run_edge.Goals as goal
 
 pub returns-in-Ok : goal.returns-in-Ok
 returns-in-Ok c = lined_ran c.args.input.now c.requires.0 _ _ _ _ _ _ _ _ _ _ c.requires.1 c.in-Ok.ensures c.run_lined.ensures

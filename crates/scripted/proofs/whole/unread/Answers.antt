@@ -3,8 +3,8 @@ use Rattle.scripted.specs.Runs.{bytes_in}
 use Rattle.scripted.specs.Scripts.{Unread}
 use Rattle.scripted.specs.Scripts as scripts
 use Rattle.scripted.proofs.Judged.{told_unread}
-use Rattle.scripted.proofs.script.unread.Goals as goal
-use Rattle.scripted.proofs.script.unread.Goals.{in-Told, in-Memory}
+use Rattle.scripted.proofs.whole.unread.Goals as goal
+use Rattle.scripted.proofs.whole.unread.Goals.{in-Told, in-Memory}
 
 pub returns : goal.returns
 returns c =
