@@ -24,13 +24,13 @@ returns-in_err-word c = λ ds ys l h.
     let e : (c.args.fields ≡ 2) ⊎ (c.args.fields ≡ 6) = elim c.else-fields-ne2.branch [ else-fields-ne2-via-then-fields-ne2+else-fields w ↦ inr w.if-fields.false | else-fields-ne2-via-else-fields-ne2 w ↦ inl w.if-fields-ne2.false ] in
     absurd (c.in_err-word.ensures ds ys (l (some_after c.args.fields (length ds) e h)))
 
-pub returns-in_err-lengths : goal.returns-in_err-lengths
-returns-in_err-lengths c = λ ds ys l h.
+pub returns-in_err-lengths-in-Some : goal.returns-in_err-lengths-in-Some
+returns-in_err-lengths-in-Some c = λ ds ys l h.
     let e : (c.args.fields ≡ 2) ⊎ (c.args.fields ≡ 6) = elim c.else-fields-ne2.branch [ else-fields-ne2-via-then-fields-ne2+else-fields w ↦ inr w.if-fields.false | else-fields-ne2-via-else-fields-ne2 w ↦ inl w.if-fields-ne2.false ] in
-    let p = err_from_is_err_and c.from_residual-in_err-lengths.result c.from_residual-in_err-lengths.ensures.1 in
+    let p = err_from_is_err_and c.from_residual-in_err-lengths-in-Some.result c.from_residual-in_err-lengths-in-Some.ensures.1 in
     let s = c.in_ok-word.ensures ds ys (l (some_after c.args.fields (length ds) e h)) in
     let n : length s.others ≡ 4 = four_left c.args.fields (length ds) (length s.others) e c.if-fields-eq2.false h (others_long s refl) in
-    rw (p.1, p.2) (not_rated_number s c.args.record c.in-Some.kind c.in_err-lengths.field-0.0 c.in-Some.ensures n (c.in_err-lengths.ensures s.others ys (s.line (omega arith)) n))
+    rw (p.1, p.2) (not_rated_number s c.args.record c.in-Some.kind c.in_err-lengths-in-Some.field-0.0 c.in-Some.ensures n (c.in_err-lengths-in-Some.ensures s.others ys (s.line (omega arith)) n))
 
 pub returns-then-fields-eq2 : goal.returns-then-fields-eq2
 returns-then-fields-eq2 c = λ ds ys l h.
@@ -39,12 +39,12 @@ returns-then-fields-eq2 c = λ ds ys l h.
     let none : length s.others ≡ 0 = omega (arith, c.if-fields-eq2.true, others_long s {n = length ds} refl) in
     rated_amply s c.args.rater c.in-Some.kind c.call.result none c.in-Some.ensures c.call.ensures
 
-pub returns-in_ok-lengths : goal.returns-in_ok-lengths
-returns-in_ok-lengths c = λ ds ys l h.
+pub returns-in_ok-lengths-in-Some : goal.returns-in_ok-lengths-in-Some
+returns-in_ok-lengths-in-Some c = λ ds ys l h.
     let e : (c.args.fields ≡ 2) ⊎ (c.args.fields ≡ 6) = elim c.else-fields-ne2.branch [ else-fields-ne2-via-then-fields-ne2+else-fields w ↦ inr w.if-fields.false | else-fields-ne2-via-else-fields-ne2 w ↦ inl w.if-fields-ne2.false ] in
     let s = c.in_ok-word.ensures ds ys (l (some_after c.args.fields (length ds) e h)) in
     let n : length s.others ≡ 4 = four_left c.args.fields (length ds) (length s.others) e c.if-fields-eq2.false h (others_long s refl) in
-    rated_lending s c.args.rater c.in-Some.kind c.in_ok-lengths.lengths c.call-else-fields-eq2.result c.in-Some.ensures (c.in_ok-lengths.ensures s.others ys (s.line (omega arith)) n) c.call-else-fields-eq2.ensures
+    rated_lending s c.args.rater c.in-Some.kind c.in_ok-lengths-in-Some.lengths c.call-else-fields-eq2.result c.in-Some.ensures (c.in_ok-lengths-in-Some.ensures s.others ys (s.line (omega arith)) n) c.call-else-fields-eq2.ensures
 
 pub returns-in-None : goal.returns-in-None
 returns-in-None c = λ ds ys l h.

@@ -9,4 +9,4 @@ returns-in-Ok c = sealed_ran c.args.input.now c.requires.0 _ _ _ _ _ _ _ _ _ _ _
 
 pub returns-in-Err : goal.returns-in-Err
 returns-in-Err c =
-    unread_ran c.args.input.now (MeasuredRefused c.args.input.now blank_rows) (λ f p. scripts.decreases f c.requires.0 c.requires.1 p) c.in-Err.fault _ _ c.in-Err.ensures.0 c.unread.ensures
+    unread_ran c.args.input.now (MeasuredRefused c.args.input.now blank_rows) (λ f p. scripts.measured f c.requires.0 c.requires.1 p) c.in-Err.fault _ _ c.in-Err.ensures.0 c.unread.ensures
