@@ -1,5 +1,5 @@
 -- From a table that was read to what is answered.
-use Rattle.std.proofs.Common.{◌≡◌, ℕ, List, Ok, Err, Result, sym, refl, subst, arith, MatchResult}
+use Rattle.std.proofs.Common.{◌≡◌, ℕ, List, Ok, Err, Result, sym, refl, subst, MatchResult}
 use Rattle.measured.specs.Judged.{seal_judged}
 use Rattle.measured.specs.Rows.{rows_shape}
 use Rattle.measured.specs.declared.measured.Draft.{Draft}
@@ -7,10 +7,8 @@ use Rattle.measured.specs.declared.row.Row.{Row}
 use Rattle.readings.specs.Blank.{blank_rows}
 use Rattle.readings.specs.Runs.{RunTaken}
 use Rattle.surface.specs.Verdict.{Verdict}
-use Rattle.surface.specs.declared.fault.SurfaceFault.{SurfaceFault}
 use Rattle.card.specs.declared.answers.Answer.{Answer}
 use Rattle.card.specs.declared.fault.JobFault.{JobFault}
-use Rattle.card.specs.declared.fault.JobFault.TheVariants.{Surface}
 use Rattle.rated.specs.Ratings.{Drafted, Figures, RatedTable, RefusedTable, SealedRated}
 use Rattle.rated.specs.Ratings as ratings
 

@@ -1,5 +1,5 @@
 -- The numbers of a record's fields, one field at a time, of a kind V where `W bs v` says that the bytes bs write v.
-use Rattle.std.proofs.Common.{◌≡◌, ℕ, zero, suc, ◌+◌, ◌-◌, ◌<◌, ◌≤◌, ◌≢◌, List, [], ◌∷◌, ◌++◌, length, get_or, take, drop, set, sym, refl, ap, ◌∙◌, subst, ⊎_elim, arith}
+use Rattle.std.proofs.Common.{◌≡◌, ℕ, ◌+◌, ◌<◌, ◌≤◌, ◌≢◌, List, [], ◌∷◌, ◌++◌, length, get_or, take, drop, set, sym, refl, ap, ◌∙◌, subst, ⊎_elim, arith}
 use Rattle.std.proofs.lemmas.List.{take_more, drop_more, take_all, length-take-le, length_push, get_or_push, get_or_append_left, get_or-set_same, get_or-set_other, get_or-take, ext_get_or, length-drop}
 use Rattle.std.proofs.lemmas.Bool.{cases_lt}
 use Rattle.table.specs.Cells.{Cell, plain, cell_of, content, MalformedAt}

@@ -1,7 +1,6 @@
 -- What follows the surface, record by record.
-use Rattle.std.proofs.Common.{◌≡◌, ℕ, ◌+◌, ◌-◌, ◌<◌, ◌≤◌, Bool, true, false, List, [], ◌∷◌, length, drop, ℤ, Decides, sym, refl, ap, ◌∙◌, subst, arith}
+use Rattle.std.proofs.Common.{◌≡◌, ℕ, ◌+◌, ◌-◌, ◌<◌, ◌≤◌, Bool, false, List, length, drop, ℤ, Decides, sym, ap, subst, arith}
 use Rattle.std.proofs.lemmas.List.{drop_all, length-drop}
-use Rattle.surface.specs.declared.fault.SurfaceFault.{SurfaceFault}
 use Rattle.surface.specs.declared.fault.SurfaceFault.TheVariants.{Text}
 use Rattle.table.specs.Cells.{Cell, content}
 use Rattle.table.specs.Lines.{Line, LineRead, LineRefused}
@@ -10,10 +9,9 @@ use Rattle.table.specs.declared.fault.TextFault.TheVariants.{Malformed, TooLong}
 use Rattle.table.specs.declared.line.LineEnd.{LineEnd}
 use Rattle.readings.proofs.Headers.{line_few}
 use Rattle.readings.proofs.Stations.{passes}
-use Rattle.script.specs.Calls.{Unopened}
 use Rattle.script.specs.Edges.{EdgeBegins, EdgeHeaded, EdgeUnheaded, EdgeRefused}
 use Rattle.script.specs.Edges as edges
-use Rattle.script.specs.Lines.{Split, Says}
+use Rattle.script.specs.Lines.{Split}
 use Rattle.script.specs.Tails.{FirstRecord, TurnsSaid, TurnedFirst, TurnedStops, OpenStops}
 use Rattle.script.specs.Tails as tails
 use Rattle.script.specs.Turns.{unturned, TurnedBy, Misturned}

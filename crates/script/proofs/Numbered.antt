@@ -1,8 +1,7 @@
 -- Numbers that are held: what is made of them is made of what the fields write.
-use Rattle.std.proofs.Common.{◌≡◌, ℕ, ◌<◌, ◌≤◌, List, [], ◌∷◌, length, get_or, sym, refl, ap, ◌∙◌, subst, arith}
+use Rattle.std.proofs.Common.{◌≡◌, ℕ, List, [], ◌∷◌, length, get_or, refl, ap, ◌∙◌, subst, arith}
 use Rattle.table.specs.Cells.{Cell}
 use Rattle.card.specs.declared.calls.Call.TheVariants.{Factors as SetFactors, Reduce as CallReduce}
-use Rattle.card.specs.declared.calls.Lengths.{Lengths}
 use Rattle.records.specs.Numbers.{Written, Held, Taken}
 use Rattle.records.proofs.Progress.{taken_length}
 use Rattle.script.specs.Calls.{setter_call, factors_of, lengths_of}

@@ -1,9 +1,9 @@
 -- Records that each say one entry, one after another.
-use Rattle.std.proofs.Common.{◌≡◌, ℕ, ◌+◌, ◌<◌, ◌≤◌, List, [], ◌∷◌, ◌++◌, length, drop, sym, refl, ap, ◌∙◌, subst, arith}
+use Rattle.std.proofs.Common.{◌≡◌, ℕ, ◌+◌, ◌<◌, ◌≤◌, List, [], ◌∷◌, ◌++◌, length, drop, sym, ◌∙◌, subst, arith}
 use Rattle.std.proofs.lemmas.List.{drop_all, length-drop, length_push}
 use Rattle.surface.specs.declared.fault.SurfaceFault.TheVariants.{Text}
 use Rattle.table.specs.Cells.{Cell}
-use Rattle.table.specs.Lines.{Line, LineRead, LineRefused}
+use Rattle.table.specs.Lines.{LineRead, LineRefused}
 use Rattle.table.specs.Tables as tables
 use Rattle.table.specs.declared.fault.TextFault.{TextFault}
 use Rattle.table.specs.declared.fault.TextFault.TheVariants.{Malformed, TooLong}

@@ -1,5 +1,5 @@
 -- What a record says, from its word and what follows the word.
-use Rattle.std.proofs.Common.{◌≡◌, ℕ, ◌+◌, ◌<◌, ◌⊎◌, List, [], ◌∷◌, length, ℤ, Ok, Err, Result, sym, refl, ap, ◌∙◌, subst, arith, MatchResult}
+use Rattle.std.proofs.Common.{◌≡◌, ℕ, ◌+◌, ◌⊎◌, List, [], ◌∷◌, length, ℤ, Ok, Err, Result, sym, ap, ◌∙◌, subst, arith, MatchResult}
 use Rattle.std.proofs.lemmas.List.{nil_from_length}
 use Rattle.table.specs.Cells.{Cell, content}
 use Rattle.table.specs.Numbers.{Writes, Counts}
@@ -9,7 +9,6 @@ use Rattle.records.specs.Numbers.{Written, Missed}
 use Rattle.card.specs.Ample.{ample}
 use Rattle.card.specs.declared.calls.Call.{Call}
 use Rattle.card.specs.declared.calls.Lengths.{Lengths}
-use Rattle.model.specs.declared.lanes.Carriageway.{Carriageway}
 use Rattle.model.specs.declared.weights.LoadKind.{LoadKind}
 use Rattle.script.specs.Calls.{Opens, Unopened, RatesBy, NotRated, Said, Unsaid, SetBy, LentBy, rater_call}
 use Rattle.script.specs.Calls as calls

@@ -1,5 +1,5 @@
 -- The first field of a record that was read before, and the others.
-use Rattle.std.proofs.Common.{◌≡◌, ℕ, ◌+◌, ◌<◌, Bool, true, false, ◌⊎◌, List, [], ◌∷◌, length, drop, Decides, sym, refl, ap, subst, inl, inr, ⊎_elim, arith}
+use Rattle.std.proofs.Common.{◌≡◌, ℕ, ◌+◌, ◌<◌, Bool, true, false, ◌⊎◌, List, [], ◌∷◌, length, drop, Decides, sym, ap, subst, inl, inr, ⊎_elim, arith}
 use Rattle.table.specs.Cells.{Cell, cell_of, content}
 use Rattle.table.specs.Lines.{Line, FieldRead}
 use Rattle.table.specs.declared.field.FieldEnd.{FieldEnd}

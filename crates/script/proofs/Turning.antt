@@ -1,5 +1,5 @@
 -- The words after `turned`, one at a time.
-use Rattle.std.proofs.Common.{◌≡◌, ℕ, ◌+◌, ◌<◌, ◌≤◌, true, List, [], ◌∷◌, ◌++◌, length, get_or, take, drop, Some, None, Option, sym, refl, ap, ◌∙◌, subst, arith}
+use Rattle.std.proofs.Common.{◌≡◌, ℕ, ◌+◌, ◌<◌, ◌≤◌, List, [], ◌∷◌, length, get_or, take, drop, Some, None, sym, ap, ◌∙◌, subst, arith}
 use Rattle.std.proofs.lemmas.List.{take_more, drop_more, take_all, length-drop}
 use Rattle.table.specs.Cells.{Cell, plain, content}
 use Rattle.table.specs.Lines.{Line}
@@ -7,9 +7,7 @@ use Rattle.table.specs.declared.fault.TextFault.TheVariants.{Malformed}
 use Rattle.script.specs.Lines.{Split}
 use Rattle.script.specs.Turns.{unturned, follows, turned_on, NextTurn, TurnedBy, Misturned}
 use Rattle.script.specs.Turns as turns
-use Rattle.script.specs.Words.{turn_word}
 use Rattle.script.specs.declared.turns.Turns.{Turns}
-use Rattle.script.specs.declared.words.Turn.{Turn}
 
 -- i words are read, and the record of those that are left begins at byte p
 pub record Turning (ds : List Cell) (ys input : List ℕ) (i p : ℕ) (t : Turns) : Type 0 where

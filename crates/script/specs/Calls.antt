@@ -1,5 +1,5 @@
 -- What the opening and the calls of a script say.
-use Rattle.std.specs.Prelude.{◌≡◌, ℕ, ◌+◌, ◌⊎◌, List, [], ◌∷◌, length, ◌≢◌, slice_index}
+use Rattle.std.specs.Prelude.{◌≡◌, ℕ, ◌⊎◌, List, [], ◌∷◌, length, ◌≢◌, slice_index}
 use Rattle.table.specs.Cells.{Cell, content}
 use Rattle.table.specs.Numbers.{Counts}
 use Rattle.table.specs.declared.fault.TextFault.{TextFault}

@@ -4,7 +4,6 @@ use Rattle.model.specs.declared.weights.LoadKind.{LoadKind}
 use Rattle.report.specs.Texts.{figure_word, drawing_word, kind_word}
 use Rattle.script.specs.declared.words.Setter.{Setter}
 use Rattle.script.specs.declared.words.Setter.TheVariants.{Kerbs, Factors, Reduce, Posted, Withdraw}
-use Rattle.script.specs.declared.words.Rater.{Rater}
 use Rattle.script.specs.declared.words.Rater.TheVariants.{Figure, Drawing}
 use Rattle.script.specs.declared.words.Verb.{Verb}
 use Rattle.script.specs.declared.words.Verb.TheVariants.{Sets, Rates}

@@ -1,5 +1,5 @@
 -- From what was read, by the verdict on the surface as a whole, to what the run of a script leaves.
-use Rattle.std.proofs.Common.{◌≡◌, ℕ, ◌<◌, ◌≤◌, List, length, ℤ, pos, IfOk, Some, None, Ok, Err, Option, Result, sym, refl, ap, ◌∙◌, subst, arith}
+use Rattle.std.proofs.Common.{◌≡◌, ℕ, ◌≤◌, List, length, ℤ, pos, IfOk, Some, None, Ok, Err, Option, Result, sym, refl, ap, ◌∙◌, subst, arith}
 use Rattle.surface.specs.Told.{surface_told}
 use Rattle.surface.specs.Verdict.{Verdict, Answered}
 use Rattle.surface.specs.declared.fault.SurfaceFault.{SurfaceFault}
@@ -20,7 +20,7 @@ use Rattle.script.specs.Parts.{BeginsEdge}
 use Rattle.script.specs.Scripts.{MeasuredSays, LinedSays}
 use Rattle.script.specs.Turns.{turned_shape}
 use Rattle.script.specs.declared.fault.ScriptFault.{ScriptFault}
-use Rattle.script.specs.declared.fault.ScriptFault.TheVariants.{Told, Memory}
+use Rattle.script.specs.declared.fault.ScriptFault.TheVariants.{Told}
 use Rattle.script.specs.declared.turns.Turns.{Turns}
 use Rattle.scripted.specs.Runs.{RanSo, bytes_in}
 use Rattle.scripted.specs.Scripts.{ScriptRefused, ScriptRan, Unread, JudgedRan, OverEdges, EdgeJudgedRan, LinedRan}

@@ -1,5 +1,5 @@
 -- A run that was made, and one that was refused, leave what is said.
-use Rattle.std.proofs.Common.{◌≡◌, ℕ, ◌≤◌, Bool, true, false, cond, leb, List, length, IfOk, Some, None, Ok, Err, Option, Result, sym, refl, ap, ◌∙◌, subst, arith}
+use Rattle.std.proofs.Common.{◌≡◌, ℕ, ◌≤◌, Bool, true, false, cond, leb, List, length, IfOk, Some, None, Ok, Err, Option, Result, sym, refl, ap, ◌∙◌, arith}
 use Rattle.std.proofs.lemmas.Bool.Decides.{nat_tests}
 use Rattle.surface.specs.Shape.{Shape}
 use Rattle.table.specs.declared.fault.Report.{Report}
@@ -11,7 +11,7 @@ use Rattle.card.specs.declared.answers.Answer.{Answer}
 use Rattle.card.specs.declared.calls.Call.{Call}
 use Rattle.card.specs.declared.fault.JobFault.{JobFault}
 use Rattle.card.specs.declared.fault.JobFault.TheVariants.{Kerbs, Short}
-use Rattle.statement.specs.Runs.{Duty, Replayed, duty_of, duty_told, unmade}
+use Rattle.statement.specs.Runs.{Duty, Replayed, duty_of, duty_told}
 use Rattle.rating.proofs.Asked.{unless_none}
 use Rattle.report.specs.Texts.{refusal_text}
 use Rattle.scripted.specs.Runs.{RanSo, RunText, OpenedLines, bytes_in, duty_left}

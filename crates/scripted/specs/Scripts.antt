@@ -21,7 +21,7 @@ use Rattle.script.specs.Parts.{BeginsEdge}
 use Rattle.script.specs.Scripts.{MeasuredSays, MeasuredRefused, LinedSays, LinedRefused}
 use Rattle.script.specs.Turns.{turned_shape}
 use Rattle.script.specs.declared.fault.ScriptFault.{ScriptFault}
-use Rattle.script.specs.declared.fault.ScriptFault.TheVariants.{Told, Memory}
+use Rattle.script.specs.declared.fault.ScriptFault.TheVariants.{Told}
 use Rattle.script.specs.declared.turns.Turns.{Turns}
 use Rattle.scripted.specs.Runs.{RanSo}
 

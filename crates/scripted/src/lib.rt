@@ -3,5 +3,5 @@
 
 mod answers;
 pub mod ran;
-pub mod whole;
 mod turning;
+pub mod whole;

@@ -1,4 +1,4 @@
-use Rattle.std.proofs.Common.{◌≡◌, ◌+◌, List, [], sym, subst, arith}
+use Rattle.std.proofs.Common.{◌+◌, List, sym, subst, arith}
 use Rattle.std.proofs.lemmas.Result.{err_from_is_err_and}
 use Rattle.table.proofs.SecondPass.{read_advances}
 use Rattle.script.proofs.Reading.{Reading, reading_none, reading_more, reading_broken, reading_said_none, reading_done}

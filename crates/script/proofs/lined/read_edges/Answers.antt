@@ -1,4 +1,4 @@
-use Rattle.std.proofs.Common.{◌≡◌, ℕ, ◌<◌, length, pos, ◌∙◌, arith}
+use Rattle.std.proofs.Common.{◌≡◌, length, pos, arith}
 use Rattle.std.proofs.lemmas.Result.{err_from_is_err_and}
 use Rattle.table.specs.Numbers.{Writes}
 use Rattle.script.proofs.Numbered.{three_written}

@@ -1,4 +1,4 @@
-use Rattle.std.proofs.Common.{◌≡◌, ℕ, ◌<◌, refl, arith}
+use Rattle.std.proofs.Common.{◌≡◌, ℕ, refl, arith}
 use Rattle.table.proofs.SecondPass.{read_advances}
 use Rattle.script.proofs.Surface.{sofar_none, sofar_more, sofar_followed, sofar_last, sofar_broken}
 use Rattle.script.proofs.part.surface_part.Goals as goal

@@ -1,4 +1,3 @@
-use Rattle.std.proofs.Common.{◌≡◌, refl}
 use Rattle.script.proofs.Splits.{split_says}
 use Rattle.script.proofs.part.word_is_edge.Goals as goal
 

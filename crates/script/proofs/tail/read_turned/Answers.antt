@@ -1,4 +1,4 @@
-use Rattle.std.proofs.Common.{◌≡◌, ◌+◌, ◌≤◌, refl, arith}
+use Rattle.std.proofs.Common.{arith}
 use Rattle.std.proofs.lemmas.Result.{err_from_is_err_and}
 use Rattle.script.proofs.Following.{fields_few, words_count, turned_none, turned_broken, turned_not, turned_stops, turned_so}
 use Rattle.script.proofs.tail.read_turned.Goals as goal

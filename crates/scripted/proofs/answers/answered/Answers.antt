@@ -1,4 +1,4 @@
-use Rattle.std.proofs.Common.{◌≡◌, ◌≤◌, List, length, None, string_bytes, subst, arith}
+use Rattle.std.proofs.Common.{◌≤◌, List, length, None, string_bytes, subst, arith}
 use Rattle.card.specs.declared.calls.Call.{Call}
 use Rattle.statement.specs.Runs.{duty_told}
 use Rattle.scripted.specs.Runs.{RanSo, bytes_in}

@@ -1,7 +1,5 @@
 use Rattle.std.proofs.Common.{◌≡◌, sym, refl, ap, ◌∙◌, subst}
-use Rattle.surface.specs.declared.fault.SurfaceFault.{SurfaceFault}
 use Rattle.surface.specs.declared.fault.SurfaceFault.TheVariants.{Text}
-use Rattle.table.specs.declared.fault.TextFault.TheVariants.{TooLong}
 use Rattle.script.specs.declared.fault.ScriptFault.TheVariants.{Told}
 use Rattle.scripted.specs.Scripts.{ScriptRefused}
 use Rattle.scripted.specs.Scripts as scripts

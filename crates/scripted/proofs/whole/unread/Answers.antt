@@ -1,4 +1,4 @@
-use Rattle.std.proofs.Common.{Some, None, string_bytes, sym, subst}
+use Rattle.std.proofs.Common.{None, string_bytes, sym, subst}
 use Rattle.scripted.specs.Runs.{bytes_in}
 use Rattle.scripted.specs.Scripts.{Unread}
 use Rattle.scripted.specs.Scripts as scripts
