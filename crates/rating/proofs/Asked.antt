@@ -23,6 +23,7 @@ use Rattle.card.specs.declared.fault.JobFault.{JobFault}
 use Rattle.card.specs.declared.fault.JobFault.TheVariants.{Kerbs, Short}
 use Rattle.statement.specs.Figures.{tandem_in, Figured, Lists, Listed}
 use Rattle.statement.specs.Runs.{Told, Taken, in_force}
+use Rattle.rating.specs.Reach.{reached}
 
 pub fit_bounds : (n : ℕ) (k : Carriageway) → kerbs_fit n k ≡ true → (30 ≤ k.width) × (k.width ≤ 150) × (k.first + breadth k ≤ n)
 fit_bounds n k e = (grind (arith, nat_tests), grind (arith, nat_tests), grind (arith, nat_tests))
@@ -44,16 +45,24 @@ own_cause false x o e h = absurd (not_true (sym e))
 leb_cut : (w x y n : ℕ) → w ≤ n → y ≡ min x n → leb w y ≡ leb w x
 leb_cut w x y n h e = grind (arith, nat_tests)
 
--- lists cut to what any kerbs need are long enough for these kerbs exactly where the whole ones are
-pub cut_enough : (n : ℕ) (k : Carriageway) (l m : Lengths) → kerbs_fit n k ≡ true
-    → m.areas ≡ min l.areas 300 → m.tandems ≡ min l.tandems 300 → m.bests ≡ min l.bests 7224 → m.owners ≡ min l.owners 300 → long_enough k m ≡ long_enough k l
-cut_enough n k l m fit a t b o =
+-- lists cut to what these kerbs need are long enough exactly where the whole ones are
+pub cut_enough : (n : ℕ) (k : Carriageway) (l : Lengths) → kerbs_fit n k ≡ true → long_enough k (reached k l) ≡ long_enough k l
+cut_enough n k l fit =
     let w : k.width ≤ 150 = (fit_bounds n k fit).1 in
-    let p = leb_cut (breadth k) l.areas m.areas 300 (omega arith) a in
-    let q = leb_cut (breadth k) l.tandems m.tandems 300 (omega arith) t in
-    let r = leb_cut (24 * (breadth k + 1)) l.bests m.bests 7224 (omega arith) b in
-    let s = leb_cut (breadth k) l.owners m.owners 300 (omega arith) o in
+    let far : breadth k ≤ min (breadth k) 300 = omega arith in
+    let p = leb_cut (breadth k) l.areas (reached k l).areas 300 (omega arith) refl in
+    let q = leb_cut (breadth k) l.tandems (reached k l).tandems (min (breadth k) 300) far refl in
+    let r = leb_cut (24 * (breadth k + 1)) l.bests (reached k l).bests 7224 (omega arith) refl in
+    let s = leb_cut (breadth k) l.owners (reached k l).owners (min (breadth k) 300) far refl in
     cc
+
+abbrev four : ℕ → ℕ → ℕ → ℕ → Lengths
+four a t b o = record { areas = a; tandems = t; bests = b; owners = o }
+
+-- four lengths that are those of l
+pub same_lengths : (l : Lengths) {a t b o : ℕ} → a ≡ l.areas → t ≡ l.tandems → b ≡ l.bests → o ≡ l.owners → four a t b o ≡ l
+same_lengths l {a} {t} {b} {o} ea et eb eo =
+    ap (λ (x : ℕ). four x t b o) ea ∙ ap (λ (x : ℕ). four l.areas x b o) et ∙ ap (λ (x : ℕ). four l.areas l.tandems x o) eb ∙ ap (λ (x : ℕ). four l.areas l.tandems l.bests x) eo
 
 pub enough_owners : (k : Carriageway) (l : Lengths) → long_enough k l ≡ true → breadth k ≤ l.owners
 enough_owners k l e = grind (arith, nat_tests)

@@ -4,10 +4,12 @@ ghost use Rattle.card.specs.Bounds.{kerbs_fit};
 ghost use Rattle.card.specs.declared.calls.Call.TheVariants.{Figure, Drawing};
 ghost use Rattle.statement.specs.Runs.{Told};
 ghost use Rattle.figures.specs.Lent.{lengths as lengths_of};
+ghost use Rattle.rating.specs.Reach.{reached};
 
 use crate::job::Job;
 use card::answers::{Answer, Layout};
 use card::calls::Lengths;
+use model::lanes::Carriageway;
 use model::tandems::Tandem;
 use model::weights::LoadKind;
 use surface::Surface;
@@ -26,6 +28,19 @@ pub struct Desk {
     pub figures: [Option<u64>; ENTRIES],
     pub drawings: [Option<Kerbed>; ENTRIES],
     pub owners: [u8; SLICES],
+}
+
+// How much of lists of these lengths is lent: owners and tandems as far as the kerbs reach, so that they show nothing of an earlier call.
+fn reach(kerbs: Carriageway, lengths: Lengths) -> Lengths
+    ensures { result ≡ reached kerbs lengths }
+{
+    let slices = kerbs.slices().min(SLICES);
+    Lengths {
+        areas: lengths.areas.min(SLICES),
+        tandems: lengths.tandems.min(slices),
+        bests: lengths.bests.min(ENTRIES),
+        owners: lengths.owners.min(slices),
+    }
 }
 
 // A copy of the items, with `blank` after them.
@@ -64,7 +79,7 @@ fn figure_over<S: Surface>(
     }
 }
 
-// The answer to a figure with lists of these lengths, as far as any kerbs reach.
+// The answer to a figure with lists of these lengths.
 pub fn ask_figure<S: Surface>(
     job: &Job<S>,
     kind: LoadKind,
@@ -73,10 +88,12 @@ pub fn ask_figure<S: Surface>(
 ) -> Answer
     ensures { kerbs_fit (S.Surface.shape job.now.surface).slices job.now.card.kerbs ≡ true → Told (S.Surface.shape job.now.surface) job.now.card (Figure kind lengths) result }
 {
-    let areas = lengths.areas.min(SLICES);
-    let tandems = lengths.tandems.min(SLICES);
-    let bests = lengths.bests.min(ENTRIES);
-    let owners = lengths.owners.min(SLICES);
+    let Lengths {
+        areas,
+        tandems,
+        bests,
+        owners,
+    } = reach(job.card.kerbs, lengths);
     figure_over(
         job,
         kind,
@@ -111,7 +128,7 @@ fn drawing_over<S: Surface>(
     }
 }
 
-// The answer to a drawing with lists of these lengths, as far as any kerbs reach.
+// The answer to a drawing with lists of these lengths.
 pub fn ask_drawing<S: Surface>(
     job: &Job<S>,
     kind: LoadKind,
@@ -120,10 +137,12 @@ pub fn ask_drawing<S: Surface>(
 ) -> Answer
     ensures { kerbs_fit (S.Surface.shape job.now.surface).slices job.now.card.kerbs ≡ true → Told (S.Surface.shape job.now.surface) job.now.card (Drawing kind lengths) result }
 {
-    let areas = lengths.areas.min(SLICES);
-    let tandems = lengths.tandems.min(SLICES);
-    let bests = lengths.bests.min(ENTRIES);
-    let owners = lengths.owners.min(SLICES);
+    let Lengths {
+        areas,
+        tandems,
+        bests,
+        owners,
+    } = reach(job.card.kerbs, lengths);
     drawing_over(
         job,
         kind,
