@@ -1,6 +1,7 @@
 // The rows of a run's table.
-ghost use Rattle.std.specs.Prelude.{◌≡◌, ℕ, ◌+◌, ◌-◌, ◌<◌, ◌≤◌, length, drop, pos, is_ok, if◌then◌else◌, MatchResult, slice_index_or, slice_range, slice_set};
+ghost use Rattle.std.specs.Prelude.{◌≡◌, ℕ, ◌+◌, ◌-◌, ◌<◌, ◌≤◌, length, drop, pos, is_ok, if◌then◌else◌, MatchResult, ◌≢◌, slice_index_or, slice_range, slice_set};
 ghost use Rattle.measured.specs.Judged.{row_of, station_judged};
+ghost use Rattle.table.specs.declared.fault.TextFault.TheVariants.{Malformed};
 ghost use Rattle.readings.specs.Runs.{RowTaken, RowStops};
 
 use crate::numbers::{MOST, read_numbers};
@@ -26,6 +27,16 @@ fn take_station(
     draft.station(rows, numbers[0], &numbers[1..fields])
 }
 
+// A row has as many fields as the header.
+fn check_fields(found: usize, fields: usize, record: u32) -> Result<(), TextFault>
+    ensures { MatchResult result (λ _. found ≡ fields) (λ e. (found ≢ fields) × (e ≡ Malformed «record» 0)) }
+{
+    if found != fields {
+        return Err(TextFault::Malformed { record, field: 0 });
+    }
+    Ok(())
+}
+
 // Takes the row that begins at byte `at` as the draft's next station, and says where the row after it begins.
 pub fn read_row(
     input: &[u8],
@@ -43,9 +54,7 @@ pub fn read_row(
     ensures filled { draft.new.filled ≡ (if is_ok result then draft.old.filled + 1 else draft.old.filled) }
 {
     let line = read_line(input, at, record)?;
-    if line.fields != fields {
-        return Err(SurfaceFault::Text(TextFault::Malformed { record, field: 0 }));
-    }
+    check_fields(line.fields, fields, record)?;
     let mut numbers = [0; MOST];
     read_numbers(input, at, record, 1, fields, &mut numbers)?;
     take_station(draft, rows, &numbers, fields)?;

@@ -1,5 +1,6 @@
 // A run's table, read whole.
-ghost use Rattle.std.specs.Prelude.{◌≡◌, ℕ, MatchResult};
+ghost use Rattle.std.specs.Prelude.{◌≡◌, ℕ, ◌<◌, length, MatchResult};
+ghost use Rattle.table.specs.declared.fault.TextFault.TheVariants.{Malformed};
 ghost use Rattle.readings.specs.Runs.{RunTaken, RunRefused};
 
 use crate::header::read_header;
@@ -10,17 +11,25 @@ use surface::fault::SurfaceFault;
 use table::fault::TextFault;
 use table::line::{check_length, read_line};
 
+// A table has a record at least.
+fn check_begun(input: &[u8]) -> Result<(), TextFault>
+    ensures { MatchResult result (λ _. 0 < length input.now) (λ e. (length input.now ≡ 0) × (e ≡ Malformed 1 0)) }
+{
+    if input.len() == 0 {
+        return Err(TextFault::Malformed {
+            record: 1,
+            field: 0,
+        });
+    }
+    Ok(())
+}
+
 // Reads a run's table into the rows, and hands out their draft; the rows stand as before where the table is refused.
 pub fn read_run(input: &[u8], rows: &mut [Row; 64]) -> Result<Draft, SurfaceFault>
     ensures { MatchResult result (λ d. RunTaken input.now rows.old rows.new d.layout.slices d.layout.count d.layout.paths d.filled) (λ f. RunRefused input.now rows.old f × (rows.new ≡ rows.old)) }
 {
     check_length(input)?;
-    if input.len() == 0 {
-        return Err(SurfaceFault::Text(TextFault::Malformed {
-            record: 1,
-            field: 0,
-        }));
-    }
+    check_begun(input)?;
     let header = read_line(input, 0, 1)?;
     let mut draft = read_header(input, header.fields)?;
     let mut filled = *rows;

@@ -1,6 +1,9 @@
-use Rattle.std.proofs.Common.{◌≡◌, ℕ, ◌-◌, length, get_or, take, drop, set, pos, sym, refl, ap, ◌∙◌, arith}
+use Rattle.std.proofs.Common.{◌≡◌, ℕ, ◌-◌, length, get_or, take, drop, set, pos, sym, refl, ap, ◌∙◌, subst, arith}
 use Rattle.measured.specs.Judged.{row_of, station_judged}
 use Rattle.std.proofs.lemmas.Result.{err_from_is_err_and}
+use Rattle.surface.specs.declared.fault.SurfaceFault.TheVariants.{Text}
+use Rattle.table.specs.declared.fault.TextFault.{TextFault}
+use Rattle.readings.specs.Runs.{RowStops}
 use Rattle.readings.proofs.Stations.{stops_text, stops_fields, stops_number, stops_station, row_taken}
 use Rattle.readings.proofs.rows.read_row.Goals as goal
 
@@ -13,18 +16,23 @@ returns-in_err-line c =
       filled = refl;
     })
 
-pub returns-then-line-fields : goal.returns-then-line-fields
-returns-then-line-fields c = record {
-  row = stops_fields _ _ c.args.record _ c.args.input.now c.args.at c.requires.place c.in_ok-line.ensures (λ h. c.if-line-fields.true (h ∙ sym c.requires.fields.0));
-  layout = refl;
-  filled = refl;
-}
+pub returns-in_err-check_fields : goal.returns-in_err-check_fields
+returns-in_err-check_fields c =
+    let p = err_from_is_err_and c.from_residual-in_err-check_fields.result c.from_residual-in_err-check_fields.ensures.1 in
+    let d = c.args.draft.now in
+    let e = c.in_err-check_fields.ensures in
+    rw (p.1, p.2) (record {
+      row = subst (λ (t : TextFault). RowStops d.layout.count d.filled c.args.rows.now (drop c.args.at c.args.input.now) (Text t)) (sym e.1)
+          (stops_fields _ _ c.args.record _ c.args.input.now c.args.at c.requires.place c.in_ok-line.ensures (λ h. e.0 (h ∙ sym c.requires.fields.0)));
+      layout = refl;
+      filled = refl;
+    })
 
 pub returns-in_err-read_numbers : goal.returns-in_err-read_numbers
 returns-in_err-read_numbers c =
     let p = err_from_is_err_and c.from_residual-in_err-read_numbers.result c.from_residual-in_err-read_numbers.ensures.1 in
     let l = c.in_ok-line.ensures in
-    let n : length l.cells ≡ c.args.fields = sym l.count ∙ c.if-line-fields.false in
+    let n : length l.cells ≡ c.args.fields = sym l.count ∙ c.in_ok-check_fields.ensures in
     rw (p.1, p.2) (record {
       row = stops_number _ _ c.args.record _ c.args.input.now c.args.at c.requires.place l c.in_err-read_numbers.field-0.0 (n ∙ c.requires.fields.0) (c.in_err-read_numbers.ensures l.cells (drop c.in_ok-line.line.end c.args.input.now) l.line n);
       layout = refl;
@@ -38,7 +46,7 @@ returns-in_err-take_station c =
     let rows = c.args.rows.now in
     let into = c.read_numbers.new.into in
     let l = c.in_ok-line.ensures in
-    let n : length l.cells ≡ c.args.fields = sym l.count ∙ c.if-line-fields.false in
+    let n : length l.cells ≡ c.args.fields = sym l.count ∙ c.in_ok-check_fields.ensures in
     let t = c.in_ok-read_numbers.ensures l.cells (drop c.in_ok-line.line.end c.args.input.now) l.line n in
     let e = c.in_err-take_station.ensures in
     let j = sym (e.verdict ∙ ap (λ (f : ℕ). station_judged d.layout.count d.filled rows (get_or into 0 (pos 0)) (take (f - 1) (drop 1 into))) c.requires.fields.0) in
@@ -54,7 +62,7 @@ returns c =
     let rows = c.args.rows.now in
     let into = c.read_numbers.new.into in
     let l = c.in_ok-line.ensures in
-    let n : length l.cells ≡ c.args.fields = sym l.count ∙ c.if-line-fields.false in
+    let n : length l.cells ≡ c.args.fields = sym l.count ∙ c.in_ok-check_fields.ensures in
     let t = c.in_ok-read_numbers.ensures l.cells (drop c.in_ok-line.line.end c.args.input.now) l.line n in
     let e = c.in_ok-take_station.ensures in
     let j = sym (e.verdict ∙ ap (λ (f : ℕ). station_judged d.layout.count d.filled rows (get_or into 0 (pos 0)) (take (f - 1) (drop 1 into))) c.requires.fields.0) in

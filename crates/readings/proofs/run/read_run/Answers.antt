@@ -14,13 +14,16 @@ returns-in_err-check_length c =
     let e = c.in_err-check_length.ensures in
     rw (p.1, p.2) (subst (λ (t : TextFault). RunRefused c.args.input.now c.args.rows.now (Text t)) (sym e.0) (runs.long e.1), refl)
 
-pub returns-then-input-eq0 : goal.returns-then-input-eq0
-returns-then-input-eq0 c = (runs.empty (nil_from_length c.args.input.now c.if-input-eq0.true), refl)
+pub returns-in_err-check_begun : goal.returns-in_err-check_begun
+returns-in_err-check_begun c =
+    let p = err_from_is_err_and c.from_residual-in_err-check_begun.result c.from_residual-in_err-check_begun.ensures.1 in
+    let e = c.in_err-check_begun.ensures in
+    rw (p.1, p.2) (subst (λ (t : TextFault). RunRefused c.args.input.now c.args.rows.now (Text t)) (sym e.1) (runs.empty (nil_from_length c.args.input.now e.0)), refl)
 
 pub returns-in_err-header : goal.returns-in_err-header
 returns-in_err-header c =
     let p = err_from_is_err_and c.from_residual-in_err-header.result c.from_residual-in_err-header.ensures.1 in
-    rw (p.1, p.2) (header_text c.args.input.now c.args.rows.now c.in_err-header.field-0.0 c.in_ok-check_length.ensures (omega arith) c.in_err-header.ensures, refl)
+    rw (p.1, p.2) (header_text c.args.input.now c.args.rows.now c.in_err-header.field-0.0 c.in_ok-check_length.ensures c.in_ok-check_begun.ensures c.in_err-header.ensures, refl)
 
 pub read_header-requires : goal.read_header-requires
 read_header-requires c =
@@ -32,13 +35,13 @@ returns-in_err-draft c =
     let p = err_from_is_err_and c.from_residual-in_err-draft.result c.from_residual-in_err-draft.ensures.1 in
     let l = c.in_ok-header.ensures in
     let f = c.in_err-draft.ensures l.cells (drop c.in_ok-header.header.end c.args.input.now) l.line (sym l.count) in
-    rw (p.1, p.2) (header_said c.args.input.now c.args.rows.now l.short (omega arith) l _ f, refl)
+    rw (p.1, p.2) (header_said c.args.input.now c.args.rows.now l.short c.in_ok-check_begun.ensures l _ f, refl)
 
 pub loop-at-init : goal.loop-at-init
 loop-at-init c =
     let l = c.in_ok-header.ensures in
     let o = c.in_ok-draft.ensures l.cells (drop c.in_ok-header.header.end c.args.input.now) l.line (sym l.count) in
-    (omega arith, begins c.args.input.now c.args.rows.now l.short (omega arith) l _ o)
+    (omega arith, begins c.args.input.now c.args.rows.now l.short c.in_ok-check_begun.ensures l _ o)
 
 pub returns-in_err-at : goal.returns-in_err-at
 returns-in_err-at c =
