@@ -28,7 +28,7 @@ module _ (s : Shape) (c : Card) (a b : Answer) where
   told_alike call t u = alike_by a b (cause c call) t.judged u.judged (λ h. same_figure call (t.taken h) (u.taken h))
 
 pub one_run : OneRun
-one_run s number kerbs calls answers others met again i a b l is-a is_b =
+one_run s number kerbs calls answers others met again i a b l is_a is_b =
     let k = nth_some calls i l in
     told_alike s (card_after (opening number s.slices kerbs) (take i calls)) a b k.0
-    (told_at s number kerbs calls answers met i k.0 a k.1 is-a) (told_at s number kerbs calls others again i k.0 b k.1 is_b)
+    (told_at s number kerbs calls answers met i k.0 a k.1 is_a) (told_at s number kerbs calls others again i k.0 b k.1 is_b)

@@ -22,7 +22,7 @@ still_fits s number kerbs ks c fit e =
     let same = slices_after c₀ ks in
     ap (λ (x : Card). kerbs_fit s.slices x.kerbs) e ∙ ap (λ (n : ℕ). kerbs_fit n (card_after c₀ ks).kerbs) (sym same) ∙ after
 
-module _ {D : Type 0} (number_in serial-in : D → ℕ) (s : Shape) (lawful : Lawful s) (number : ℕ) (kerbs : Carriageway) (calls : List Call) (before after : List Answer) where
+module _ {D : Type 0} (number_in serial_in : D → ℕ) (s : Shape) (lawful : Lawful s) (number : ℕ) (kerbs : Carriageway) (calls : List Call) (before after : List Answer) where
   c₀ : Card
   c₀ = opening number s.slices kerbs
 
@@ -33,13 +33,13 @@ module _ {D : Type 0} (number_in serial-in : D → ℕ) (s : Shape) (lawful : La
   }
 
   pub replayed : (c : Card) (d : Option D) → length calls ≤ length before → kerbs_fit s.slices kerbs ≡ true → Sofar s (opening number s.slices kerbs) c calls before after (length calls)
-      → duty_told number_in serial-in d ≡ duty_of c → Replayed number_in serial-in s number kerbs calls before after (Ok d)
+      → duty_told number_in serial_in d ≡ duty_of c → Replayed number_in serial_in s number kerbs calls before after (Ok d)
   replayed c d room fit f duty = record {
     judged = let l : leb (length calls) (length before) ≡ true = grind (arith, nat_tests) in rw (l, fit);
     refused = λ e h. let z : ◌≡◌ {A = ℕ} 0 1 = cc in absurd (omega arith);
     left = λ d' h.
         let same : d ≡ d' = cc in
-        subst (λ (x : Option D). duty_told number_in serial-in x ≡ duty_of (card_after (opening number s.slices kerbs) calls)) same
+        subst (λ (x : Option D). duty_told number_in serial_in x ≡ duty_of (card_after (opening number s.slices kerbs) calls)) same
         (duty ∙ ap duty_of (f.card ∙ ap (card_after (opening number s.slices kerbs)) (take_all (length calls) calls (omega arith))));
     beyond = f.beyond;
     whole = λ d' h. whole_from_met s lawful number kerbs calls after (met c fit f);

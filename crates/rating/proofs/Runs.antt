@@ -60,14 +60,14 @@ module _ (s : Shape) (c₀ c c' : Card) (calls : List Call) (old new : List Answ
   pub sofar_more : Sofar s c₀ c calls old new i → i < length calls → i < length new → ((z : Call) → get_or calls i z ≡ call) → Told s c call a → c' ≡ step c call → Sofar s c₀ c' calls old (set new i a) (i + 1)
   sofar_more f within room read t onward = record {
     card = onward ∙ ap (λ x. step x call) f.card ∙ sym (ap (λ ks. card_after c₀ ks) (take_more calls i call within ∙ ap (λ x. take i calls ++ (x ∷ [])) (read call)) ∙ card_push c₀ (take i calls) call);
-    each = λ k k-call h is. ⊎_elim
+    each = λ k k_call h is. ⊎_elim
         (λ (e : k ≡ i).
-        let q : call ≡ k-call = sym (read call) ∙ ap (λ j. get_or calls j call) (sym e) ∙ nth_is calls k call k-call is in
+        let q : call ≡ k_call = sym (read call) ∙ ap (λ j. get_or calls j call) (sym e) ∙ nth_is calls k call k_call is in
         let u : Told s (card_after c₀ (take k calls)) call a = subst (λ x. Told s x call a) (f.card ∙ ap (λ j. card_after c₀ (take j calls)) (sym e)) t in
         record { answer = a; there = ap (λ j. slice_get (set new i a) j) e ∙ nth_set_same new i a room; told = subst (λ x. Told s (card_after c₀ (take k calls)) x a) q u })
         (λ (e : k ≡ i → ⊥).
         let l : k < i = omega arith in
-        let b = f.each k k-call l is in
+        let b = f.each k k_call l is in
         record { answer = b.answer; there = nth_set_other new i k a l ∙ b.there; told = b.told })
         (cases_eq k i);
     beyond = drop-set-lt (i + 1) new i a (omega arith) ∙ sym (drop-drop 1 i new) ∙ ap (λ l. drop 1 l) f.beyond ∙ drop-drop 1 i old;

@@ -66,5 +66,5 @@ pub record TailSaid (text : List ℕ) (rec : ℕ) (t : Turns) (number : ℕ) (ke
 pub data TailRefused (rec : ℕ) (text : List ℕ) : SurfaceFault → Type 0 where
   turns : (e : TextFault) → TurnedStops rec text e → TailRefused rec text (Text e)
   opening : (t : Turns) (rest : List ℕ) (next : ℕ) (e : TextFault) → TurnedFirst text rec t rest next → OpenStops next rest e → TailRefused rec text (Text e)
-  call : (t : Turns) (open-text : List ℕ) (next number : ℕ) (kerbs : Carriageway) (rest : List ℕ) (e : SurfaceFault) → TurnedFirst text rec t open-text next → OpenedNext open-text number kerbs rest
+  call : (t : Turns) (open_text : List ℕ) (next number : ℕ) (kerbs : Carriageway) (rest : List ℕ) (e : SurfaceFault) → TurnedFirst text rec t open_text next → OpenedNext open_text number kerbs rest
       → Stopped Said Unsaid (next + 1) rest e → TailRefused rec text e

@@ -46,10 +46,10 @@ module _ {W : Type 0} (K : Kind W) (made : ℕ → ℕ → W) (counts : Counts K
       let there = facing k t.starts in
       let here = facing k u.starts in
       let back = keeps_laid (mirror n k) n u.starts u.winner.laid in
-      let laid-here : Laid k here = record { inside = back.inside; apart = back.apart } in
+      let laid_here : Laid k here = record { inside = back.inside; apart = back.apart } in
       let m : Facing k here u.starts = λ i h. omega (arith, u.winner.laid.inside i h) in
       let up = counts.led _ _ _ _ (u.winner.greatest there (keeps_laid k n t.starts t.winner.laid)) in
-      let down = counts.led _ _ _ _ (t.winner.greatest here laid-here) in
+      let down = counts.led _ _ _ _ (t.winner.greatest here laid_here) in
       let e = keeps g lawful fit T T' t.known u.known t.starts t.winner.laid in
       let e' = keeps_facing g lawful fit T T' t.known u.known here u.starts m in
       let a = t.attained in
@@ -223,15 +223,15 @@ whole_from_met s lawful number kerbs calls answers met =
     let fit : Fit c₀ = unless_none (kerbs_fit s.slices kerbs) Kerbs met.opened in
     record {
       met = met;
-      sides = λ others met' i a b l is-a is_b.
+      sides = λ others met' i a b l is_a is_b.
           let k = nth_some calls i l in
           let c = card_after c₀ (take i calls) in
-          let t = told_at s number kerbs calls answers met i k.0 a k.1 is-a in
+          let t = told_at s number kerbs calls answers met i k.0 a k.1 is_a in
           let u = told_at (side_for_side s) number (mirror s.slices kerbs) (mirrored c₀ calls) others met' i (mirrored_call c k.0) b (nth_mirrored c₀ calls i k.0 k.1) is_b in
           sides_alike s lawful c a b (slices_after c₀ (take i calls)) (fits_after c₀ fit (take i calls)) k.0 t
           (subst (λ x. Told (side_for_side s) x (mirrored_call c k.0) b) (cards_mirrored c₀ calls i) u);
-      ends = λ others met' i a b l is-a is_b.
+      ends = λ others met' i a b l is_a is_b.
           let k = nth_some calls i l in
-          ends_alike s lawful (card_after c₀ (take i calls)) a b k.0 (told_at s number kerbs calls answers met i k.0 a k.1 is-a)
+          ends_alike s lawful (card_after c₀ (take i calls)) a b k.0 (told_at s number kerbs calls answers met i k.0 a k.1 is_a)
           (told_at (end_for_end s) number kerbs calls others met' i k.0 b k.1 is_b);
     }

@@ -125,9 +125,9 @@ fault_in (Err e) = Some e
 abbrev pub unmade : Shape → Carriageway → List Call → List Answer → Option JobFault
 unmade s kerbs calls answers = unless (nat_le (length calls) (length answers)) Short (open_cause s.slices kerbs)
 
-pub record Replayed {D : Type 0} (number_in serial-in : D → ℕ) (s : Shape) (number : ℕ) (kerbs : Carriageway) (calls : List Call) (before after : List Answer) (r : Result (Option D) JobFault) : Type 0 where
+pub record Replayed {D : Type 0} (number_in serial_in : D → ℕ) (s : Shape) (number : ℕ) (kerbs : Carriageway) (calls : List Call) (before after : List Answer) (r : Result (Option D) JobFault) : Type 0 where
   pub judged : fault_in r ≡ unmade s kerbs calls before
   pub refused : (e : JobFault) → r ≡ Err e → after ≡ before
-  pub left : (d : Option D) → r ≡ Ok d → duty_told number_in serial-in d ≡ duty_of (card_after (opening number s.slices kerbs) calls)
+  pub left : (d : Option D) → r ≡ Ok d → duty_told number_in serial_in d ≡ duty_of (card_after (opening number s.slices kerbs) calls)
   pub beyond : drop (length calls) after ≡ drop (length calls) before
   pub whole : (d : Option D) → r ≡ Ok d → Whole s number kerbs calls after

@@ -22,11 +22,11 @@ loop-i-preserved g c =
     let o = c.in_ok-job.ensures in
     let s = shape c.args.surface in
     let fit = (unless_none (kerbs_fit s.slices c.args.kerbs) Kerbs None o.judged).0 in
-    let now-card : c.loop-i.job.card ≡ card_after (opening c.args.number s.slices c.args.kerbs) (take i calls) = inv.1.card ∙ ap (λ (x : Card). card_after x (take i calls)) o.opened.0 in
-    let laid = still_fits s c.args.number c.args.kerbs (take i calls) c.loop-i.job.card fit now-card in
+    let now_card : c.loop-i.job.card ≡ card_after (opening c.args.number s.slices c.args.kerbs) (take i calls) = inv.1.card ∙ ap (λ (x : Card). card_after x (take i calls)) o.opened.0 in
+    let laid = still_fits s c.args.number c.args.kerbs (take i calls) c.loop-i.job.card fit now_card in
     let surfaces = inv.0 ∙ o.opened.1 in
-    let laid-here = subst (λ (x : g.row.S.Denot). kerbs_fit (shape x).slices c.loop-i.job.card.kerbs ≡ true) (sym surfaces) laid in
-    let t = subst (λ (x : g.row.S.Denot). Told (shape x) c.loop-i.job.card call c.make.result) inv.0 (e.told laid-here) in
+    let laid_here = subst (λ (x : g.row.S.Denot). kerbs_fit (shape x).slices c.loop-i.job.card.kerbs ≡ true) (sym surfaces) laid in
+    let t = subst (λ (x : g.row.S.Denot). Told (shape x) c.loop-i.job.card call c.make.result) inv.0 (e.told laid_here) in
     let room : i < length c.loop-i.answers = omega (arith, c.loop-i.auto.answers, c.loop-i-test.true, c.if-answers-calls.false) in (
       e.surface ∙ inv.0,
       sofar_more (shape c.in_ok-job.job.surface) c.in_ok-job.job.card c.loop-i.job.card c.make.new.job.card calls c.args.answers.now c.loop-i.answers i call c.make.result

@@ -8,7 +8,7 @@ pub returns : goal.returns
 returns c =
     let e = c.args.extent in
     let fits_low : SFits w32 e.ordinates.least = search rules in
-    let fits-high : SFits w32 e.ordinates.greatest = search rules in
+    let fits_high : SFits w32 e.ordinates.greatest = search rules in
     let low : to_z w32 (of_z w32 e.ordinates.least) ≡ e.ordinates.least = omega (arith, ints) in
     let high : to_z w32 (of_z w32 e.ordinates.greatest) ≡ e.ordinates.greatest = omega (arith, ints) in
     let line = values_text e.slices e.stations e.last_place in
