@@ -1,4 +1,3 @@
-pub mod Duties
 pub mod Made
 pub mod Plain
 pub mod Reach
