@@ -1,4 +1,4 @@
--- What `sheet` prints: one line of a refusal, or a line for each figure under their header.
+-- The text of a table: one line of a refusal, or a line for each figure under their header.
 use Rattle.std.specs.Prelude.{◌≡◌, ℕ, List, [], ◌∷◌, ◌++◌, codes}
 use Rattle.model.specs.declared.weights.LoadKind.{LoadKind}
 use Rattle.model.specs.declared.weights.LoadKind.TheVariants.{Characteristic, Frequent}

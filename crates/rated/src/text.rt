@@ -35,7 +35,7 @@ fn figure_lines(
     format!(in heap; "kind,figure,lane1,lane2,lane3,place1,place2,place3\n{first}{second}")
 }
 
-// What `sheet` prints for a table.
+// The text that tells the figures of a table's deck, or why the table is refused.
 pub fn sheet_text(heap: Global, input: &[u8]) -> Result<String, AllocError>
     ensures { IfOk result (λ s. AnsweredBy input.now (string_bytes s)) }
 {

@@ -1,4 +1,4 @@
-// Runs the stored tables through what `sheet` prints, one after the other.
+// Runs the stored tables through the text of their figures, one after the other.
 #![tactic(auto)]
 
 use rated::text::sheet_text;
