@@ -4,13 +4,14 @@ use crate::fault::JobFault;
 use model::tandems::Tandem;
 
 // What a figure or a drawing answers: the winner's rounded effect, and whether a duty is open.
-#[derive(Clone, Copy)]
+#[derive(Clone, Copy, PartialEq, Eq, Debug)]
 pub struct Rating {
     pub figure: u64,
     pub duty: bool,
 }
 
-// What a figure or a drawing shows of its winner: the owner of each slice, and the tandem of each lane start.
+// What a figure or a drawing shows of its winner: the owner of each slice, by number, and the tandem of each lane start.
+// Of fixed size: answers are copied, and a run cannot fail for want of memory.
 #[derive(Clone, Copy)]
 pub struct Layout {
     pub owners: [u8; 300],

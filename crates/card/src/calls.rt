@@ -4,7 +4,7 @@ use model::lanes::Carriageway;
 use model::weights::{Factors, LoadKind};
 
 // How long the four lists are that a figure or a drawing is lent.
-#[derive(Clone, Copy)]
+#[derive(Clone, Copy, PartialEq, Eq, Debug)]
 pub struct Lengths {
     pub areas: usize,
     pub tandems: usize,
@@ -21,7 +21,7 @@ pub const AMPLE: Lengths = Lengths {
 };
 
 // A call by its arguments: duties by job number and serial, lists by their lengths.
-#[derive(Clone, Copy)]
+#[derive(Clone, Copy, PartialEq, Eq, Debug)]
 pub enum Call {
     Kerbs(Carriageway),
     Factors(Factors),

@@ -1,13 +1,13 @@
 // Why a call of a job is refused.
 
 ghost use Rattle.std.specs.Prelude.{◌≡◌};
-ghost use Rattle.card.specs.Told.{by_job, job_told};
+ghost use Rattle.card.specs.Told.{job_told};
 ghost use Rattle.card.specs.declared.fault.JobFault.TheVariants.{Surface as by_surface};
 
 use surface::fault::SurfaceFault;
 use table::fault::{Layer, Report};
 
-#[derive(Clone, Copy)]
+#[derive(Clone, Copy, PartialEq, Eq, Debug)]
 pub enum JobFault {
     // What the surface refused.
     Surface(SurfaceFault),
@@ -31,30 +31,24 @@ impl From<SurfaceFault> for JobFault {
     }
 }
 
-// A refusal of the job layer, which has no place in any text.
-fn of_job(number: u32) -> Report
-    ensures { result ≡ by_job number }
-{
-    Report {
-        number,
-        layer: Layer::Job,
-        record: 0,
-        field: 0,
-    }
-}
+impl From<JobFault> for Report {
+    ghost from_gives = { λ fault report. report ≡ job_told fault };
 
-impl JobFault {
-    // The refusal's number, layer and place.
-    pub fn report(self) -> Report
-        ensures { result ≡ job_told self }
-    {
-        match self {
-            JobFault::Surface(f) => f.report(),
-            JobFault::Kerbs => of_job(5),
-            JobFault::Factor => of_job(6),
-            JobFault::DutyOpen => of_job(7),
-            JobFault::NotOpen => of_job(8),
-            JobFault::Short => of_job(9),
+    // The refusal's number, layer and place; those of the job have no place in any text.
+    fn from(fault: JobFault) -> Report {
+        let number = match fault {
+            JobFault::Surface(f) => return Report::from(f),
+            JobFault::Kerbs => 5,
+            JobFault::Factor => 6,
+            JobFault::DutyOpen => 7,
+            JobFault::NotOpen => 8,
+            JobFault::Short => 9,
+        };
+        Report {
+            number,
+            layer: Layer::Job,
+            record: 0,
+            field: 0,
         }
     }
 }

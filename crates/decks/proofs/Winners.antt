@@ -4,7 +4,7 @@ use Rattle.std.proofs.lemmas.Bool.{cases_lt, eqb-true, le-ltb, or_from, and_righ
 use Rattle.model.specs.declared.tandems.Tandem.{Tandem}
 use Rattle.model.specs.declared.weights.LoadKind.TheVariants.{Characteristic}
 use Rattle.placing.specs.Placing.{Before}
-use Rattle.worths.specs.declared.Kerbed.{Kerbed}
+use Rattle.worths.specs.declared.kerbed.Kerbed.{Kerbed}
 use Rattle.statement.specs.Lanes.{Laid, owners_of}
 use Rattle.statement.specs.Effects.{rounded_effect, kerb_count}
 use Rattle.decks.specs.Decks.{trial, trial_tandem, lanes_at, kerbs_of, Wins, WinsDrawn}

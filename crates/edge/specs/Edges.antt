@@ -55,6 +55,9 @@ shares_within f g n j h hf hg =
 pub scaled_within : (v w : ℤ) (d : ℕ) → unsigned_abs v ≤ 50000 → unsigned_abs w ≤ 2 * d → unsigned_abs (v *ℤ w) ≤ 100000 * d
 scaled_within v w d hv hw = let p = product_within v w 50000 (2 * d) hv hw in omega arith
 
+pub edge_mix_within : (v f g : ℤ) (n j : ℕ) → j < n → unsigned_abs v ≤ 50000 → unsigned_abs f ≤ 2000 → unsigned_abs g ≤ 2000 → unsigned_abs (edge_mix v f g n j) ≤ 100000
+edge_mix_within v f g n j h hv hf hg = quotient_within _ (2000 * n) 100000 (omega arith) (scaled_within v _ (2000 * n) hv (shares_within f g n j h hf hg))
+
 pub edge_lawful : (n : ℕ) (f g : ℤ) (ss : List Station) → Lined n ss → Leaning f g ss → Lawful (edge_shape n f g ss)
 edge_lawful n f g ss l a = record {
   wide = l.0.0;
@@ -64,5 +67,5 @@ edge_lawful n f g ss l a = record {
   begins = l.0.4;
   rises = l.1;
   ends = l.2;
-  within = λ j k h i. quotient_within _ (2000 * n) 100000 (omega arith) (scaled_within (ordinate_at ss k) _ (2000 * n) (a.2 k i) (shares_within f g n j h a.0 a.1));
+  within = λ j k h i. edge_mix_within (ordinate_at ss k) f g n j h (a.2 k i) a.0 a.1;
 }

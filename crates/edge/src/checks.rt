@@ -1,9 +1,9 @@
 // The checks of an edge surface: its counts, its stations in order, its factors.
-ghost use Rattle.std.specs.Prelude.{◌≡◌, ◌<◌, ◌≤◌, length};
+ghost use Rattle.std.specs.Prelude.{◌≡◌, ◌<◌, length};
 ghost use Rattle.edge.specs.Judged.{edge_judged, station_judged};
-ghost use Rattle.surface.specs.Verdict.{each_judged};
 
 use crate::station::Station;
+use surface::each::check_each;
 use surface::fault::SurfaceFault;
 use surface::stations::place_fits;
 
@@ -29,26 +29,17 @@ fn check_station(line: &[Station], k: usize) -> Result<(), SurfaceFault>
     Ok(())
 }
 
-// The stations, one after the other.
-fn check_line(line: &[Station]) -> Result<(), SurfaceFault>
-    ensures { result ≡ each_judged (station_judged line.now) 0 (length line.now) }
-{
-    for k in 0..line.len() {
-        check_station(line, k)?;
-    }
-    Ok(())
-}
-
+// The width of a deck, a line over it, and its factors at the two edges. They come one by one, since only what passes is an edge surface.
 pub fn check_edge(slices: i32, left: i32, right: i32, line: &[Station]) -> Result<(), SurfaceFault>
     ensures { result ≡ edge_judged slices left right line.now }
 {
-    if slices < 60 || slices > 300 || line.len() < 2 || line.len() > 64 {
+    if !(60..=300).contains(&slices) || !(2..=64).contains(&line.len()) {
         return Err(SurfaceFault::Counts {
             record: 0,
             field: 0,
         });
     }
-    check_line(line)?;
+    check_each(line.len(), |k| check_station(line, k))?;
     if left.unsigned_abs() > 2_000 || right.unsigned_abs() > 2_000 {
         return Err(SurfaceFault::Ordinate {
             record: 0,

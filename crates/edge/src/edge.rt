@@ -92,6 +92,7 @@ impl<'a> Surface for Edge<'a> {
         self.line.len()
     }
 
+    // As in `measured`, each surface reads its own rows behind a test that every surface makes.
     fn place(&self, k: usize) -> Result<u32, SurfaceFault> {
         if k >= self.stations() {
             return Err(SurfaceFault::Absent);

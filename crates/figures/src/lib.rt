@@ -3,4 +3,4 @@
 
 pub mod figures;
 mod placed;
-mod reported;
+pub mod reported;

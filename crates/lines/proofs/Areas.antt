@@ -1,5 +1,5 @@
 -- A of a slice bounds every loading, comes near the loading where the ordinate is positive, and is kept by both turns.
-use Rattle.std.proofs.Common.{◌≡◌, ℕ, zero, suc, ◌+◌, ◌-◌, ◌*◌, ◌<◌, ◌≤◌, ℤ, nat_abs, sym, refl, ap, ◌∙◌, ap₂, arith}
+use Rattle.std.proofs.Common.{◌≡◌, ℕ, zero, suc, ◌+◌, ◌-◌, ◌*◌, ◌<◌, ◌≤◌, ℤ, nat_abs, sym, refl, ap, ◌∙◌, ap₂, add-mul, arith}
 use Rattle.algebra.proofs.Sums.{total_bound, total_near, total_cong, total_reverse}
 use Rattle.surface.specs.Shape.{end_for_end}
 use Rattle.surface.specs.Turns.{place_rises}
@@ -7,18 +7,24 @@ use Rattle.lines.specs.Segments.{rounded}
 use Rattle.lines.specs.Lines.{Line, Rising, Agree}
 use Rattle.lines.specs.Areas.{row, segment_length, area_to, area_of}
 use Rattle.lines.specs.Facts.{AreasStand, AreaSideForSide, AreaEndForEnd}
-use Rattle.lines.proofs.Segments.{segment_bound, segment_near, segment_small, segment_turned}
+use Rattle.lines.proofs.Segments.{segment_bound, segment_near, segment_within, segment_turned}
 
-pub area_small : (d : Line) → Rising d → ((k : ℕ) → k < d.count → nat_abs (d.value k) ≤ 100000) → (n : ℕ) → n < d.count → area_to d n ≤ 200000 * d.place n
-area_small d w v zero k = omega arith
-area_small d w v (suc n) k =
+-- no ordinate of the row is above b
+pub area_within : (b : ℕ) (d : Line) → Rising d → ((k : ℕ) → k < d.count → nat_abs (d.value k) ≤ b) → (n : ℕ) → n < d.count → area_to d n ≤ d.place n * b + d.place n * b
+area_within b d w v zero k = omega arith
+area_within b d w v (suc n) k =
     let e : d.place (n + 1) ≡ d.place (suc n) = ap d.place (omega arith) in
+    let up = w.rises n (omega arith) in
+    let s : d.place n + segment_length d n ≡ d.place (suc n) = omega arith in
+    let m : d.place n * b + segment_length d n * b ≡ d.place (suc n) * b = sym (add-mul (d.place n) (segment_length d n) b) ∙ ap (λ (x : ℕ). x * b) s in
     omega (
       arith,
-      area_small d w v n (omega arith),
-      w.rises n (omega arith),
-      segment_small (segment_length d n) (d.value n) (d.value (n + 1)) (v n (omega arith)) (v (n + 1) (omega arith)),
+      area_within b d w v n (omega arith),
+      segment_within b (segment_length d n) (d.value n) (d.value (n + 1)) (v n (omega arith)) (v (n + 1) (omega arith)),
     )
+
+pub area_small : (d : Line) → Rising d → ((k : ℕ) → k < d.count → nat_abs (d.value k) ≤ 100000) → (n : ℕ) → n < d.count → area_to d n ≤ 200000 * d.place n
+area_small d w v n k = omega (arith, area_within 100000 d w v n k)
 
 pub is_area : AreasStand
 is_area s j = record {

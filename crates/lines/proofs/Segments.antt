@@ -1,5 +1,5 @@
 -- The greatest area of a segment over every loading: bounded, and reached where the ordinate is positive.
-use Rattle.std.proofs.Common.{◌≡◌, ℕ, zero, suc, ◌+◌, ◌-◌, ◌*◌, ◌<◌, ◌≤◌, List, [], ◌∷◌, ℤ, pos, negsuc, ◌+ℤ◌, ◌*ℤ◌, nat_abs, ◌≤ℤ◌, refl, ap, ap₂, subst₂, ⊎_elim, le_refl, mul-le-mul_right, mul-le-mul, mul-le-mul_left, mul-zero, arith}
+use Rattle.std.proofs.Common.{◌≡◌, ℕ, zero, suc, ◌+◌, ◌-◌, ◌*◌, ◌<◌, ◌≤◌, List, [], ◌∷◌, ℤ, pos, negsuc, ◌+ℤ◌, ◌*ℤ◌, nat_abs, ◌≤ℤ◌, refl, ap, ap₂, subst₂, ⊎_elim, le_refl, mul-le-mul_right, mul-le-mul, mul-le-mul_left, mul-zero, mul-add, mul_assoc, arith}
 use native.Mathlib.Nat.{sub-zero}
 use borrow.Author.Differences.{up, down, at_most_in, same_in, sum_is_lem}
 use Rattle.std.proofs.lemmas.Int.{ints}
@@ -209,16 +209,17 @@ segment_near d v u =
     trans (rounds_near d v u) (adds f (refl_≤ (whole (pos (sign_changes v u)))))
 
 -- ---- size, and the segment turned end for end
-peak_small : (d c w : ℕ) → c ≤ 100000 → c ≤ w → 0 < w → ceil (d * (c * c)) w ≤ d * 100000
-peak_small d c w h k p =
-    let a : c * c ≤ 100000 * w = omega (arith, mul-le-mul_right c h, mul-le-mul_left 100000 k) in
-    (ceils (d * (c * c)) w (d * 100000) p).1 (omega (arith, mul-le-mul_left d a))
+peak_within : (b d c w : ℕ) → c ≤ b → c ≤ w → 0 < w → ceil (d * (c * c)) w ≤ d * b
+peak_within b d c w h k p =
+    let a : d * (c * c) ≤ d * (b * w) = mul-le-mul_left d (mul-le-mul h k) in
+    (ceils (d * (c * c)) w (d * b) p).1 (omega (arith, mul_assoc d b w))
 
-pub segment_small : (d : ℕ) (v u : ℤ) → nat_abs v ≤ 100000 → nat_abs u ≤ 100000 → rounded d v u ≤ 200000 * d
-segment_small d (pos c) (pos e) h k = omega (arith, mul-le-mul_left d h, mul-le-mul_left d k)
-segment_small d (pos c) (negsuc e) h k = omega (arith, peak_small d c (c + suc e) h (omega arith) (omega arith))
-segment_small d (negsuc e) (pos c) h k = omega (arith, peak_small d c (suc e + c) k (omega arith) (omega arith))
-segment_small d (negsuc c) (negsuc e) h k = omega arith
+-- none of the ordinates above b
+pub segment_within : (b d : ℕ) (v u : ℤ) → nat_abs v ≤ b → nat_abs u ≤ b → rounded d v u ≤ d * b + d * b
+segment_within b d (pos c) (pos e) h k = omega (arith, mul-le-mul_left d h, mul-le-mul_left d k, mul-add d c e)
+segment_within b d (pos c) (negsuc e) h k = omega (arith, peak_within b d c (c + suc e) h (omega arith) (omega arith))
+segment_within b d (negsuc e) (pos c) h k = omega (arith, peak_within b d c (suc e + c) k (omega arith) (omega arith))
+segment_within b d (negsuc c) (negsuc e) h k = omega arith
 
 pub segment_turned : (d : ℕ) (v u : ℤ) → rounded d v u ≡ rounded d u v
 segment_turned d (pos c) (pos e) = omega arith

@@ -1,5 +1,5 @@
 -- What a loaded carriageway holds keeps within its bounds, and its running sums give the area of any part.
-use Rattle.std.proofs.Common.{◌≡◌, ℕ, ◌+◌, ◌*◌, ◌≤◌, get_or, ap, ◌∙◌, ap₂, arith}
+use Rattle.std.proofs.Common.{◌≡◌, ℕ, ◌+◌, ◌-◌, ◌*◌, ◌≤◌, get_or, ap, ◌∙◌, ap₂, arith}
 use Rattle.model.specs.Owners.{number_of}
 use Rattle.model.specs.Weights.{tandem_weight, uniform_weight}
 use Rattle.model.specs.declared.owners.Owner.{Owner}
@@ -49,3 +49,18 @@ module _ (c : LoadedCarriageway) where
 
     pub tandem_low : tandem_weight c.kind c.factors p * (loads_of c).top j ≤ 4800000000000000
     tandem_low = let some = width_pos c.lane p c.wide in tandem_share_low (loads_of c) low p j (omega arith)
+
+  -- what the code reads for a part of v slices whose owner has the number n: an area, and what tandem and uniform load count
+  pub record Shares (p : Owner) (j v n : ℕ) : Type 0 where
+    pub rises : get_or c.sums j 0 ≤ get_or c.sums (j + v) 0
+    pub tandem : get_or c.tandem_weights n 0 * (loads_of c).top j ≡ tandem_weight c.kind c.factors p * (loads_of c).top j
+    pub tandem_fits : get_or c.tandem_weights n 0 * (loads_of c).top j ≤ 4800000000000000
+    pub uniform : get_or c.uniform_weights n 0 * (get_or c.sums (j + v) 0 - get_or c.sums j 0) ≡ uniform_weight c.kind c.factors p * area_over (loads_of c) j (width c.lane p)
+    pub uniform_fits : get_or c.uniform_weights n 0 * (get_or c.sums (j + v) 0 - get_or c.sums j 0) ≤ 43200000000000000
+
+  pub shares : (p : Owner) (j v n : ℕ) → j + width c.lane p ≤ c.slices → v ≡ width c.lane p → n ≡ number_of p → Shares p j v n
+  shares p j v n inside e m =
+      let sums = sums_around p j inside v e in
+      let t = tandem_share p j inside n m in
+      let u = uniform_share p j inside n (get_or c.sums (j + v) 0 - get_or c.sums j 0) m (omega arith) in
+      record { rises = omega (arith, sums); tandem = t; tandem_fits = omega (arith, t, tandem_low p j inside); uniform = u; uniform_fits = omega (arith, u, uniform_low p j inside) }

@@ -12,6 +12,7 @@ use model::tandems::Tandem;
 use model::weights::{Factors, LoadKind};
 use placement::lanes::LaneSet;
 
+// Of fixed size: a placement cannot fail for want of memory.
 #[derive(Drop)]
 pub struct LoadedCarriageway<'a> {
     pub slices: usize,

@@ -4,7 +4,6 @@ ghost use Rattle.std.specs.Prelude.{◌≡◌, ℕ, ◌+◌, ◌-◌, ◌*◌, �
 ghost use Rattle.algebra.specs.Sums.{total};
 ghost use Rattle.model.specs.Lanes.{breadth, lanes_in, lane_slices};
 ghost use Rattle.model.specs.Owners.{number_of};
-ghost use Rattle.model.specs.Weights.{tandem_weight, uniform_weight};
 ghost use Rattle.model.specs.declared.owners.Owner.{Owner as AnOwner};
 ghost use Rattle.placing.specs.Placing.{lane_set};
 ghost use Rattle.placing.specs.Loaded.{loads_over, Low, most_area};
@@ -16,6 +15,7 @@ use model::owners::Owner;
 use model::tandems::Tandem;
 use model::weights::{Factors, LoadKind};
 use placement::lanes::LaneSet;
+use placement::parts::OWNERS;
 
 // The area of all slices before each.
 fn running_sums(areas: &[u64], slices: usize) -> [u64; 301]
@@ -25,38 +25,10 @@ fn running_sums(areas: &[u64], slices: usize) -> [u64; 301]
     ensures { (i : ℕ) → i ≤ slices → slice_index result i ≡ total i (λ j. slice_index areas.now j) }
 {
     let mut sums = [0; 301];
-    let mut sum = 0;
-    for i in 0..slices {
-        sum += areas[i];
-        sums[i + 1] = sum;
+    for (i, area) in areas[0..slices].iter().enumerate() {
+        sums[i + 1] = sums[i] + *area;
     }
     sums
-}
-
-// What T counts for, by the owner's number.
-fn tandem_weights(kind: LoadKind, factors: Factors) -> [u64; 5]
-    ensures { (p : AnOwner) → slice_index result (number_of p) ≡ tandem_weight kind factors p }
-{
-    [
-        factors.tandem_weight(kind, Owner::Remaining),
-        factors.tandem_weight(kind, Owner::Lane1),
-        factors.tandem_weight(kind, Owner::Lane2),
-        factors.tandem_weight(kind, Owner::Lane3),
-        factors.tandem_weight(kind, Owner::Other),
-    ]
-}
-
-// What A counts for, by the owner's number.
-fn uniform_weights(kind: LoadKind, factors: Factors) -> [u64; 5]
-    ensures { (p : AnOwner) → slice_index result (number_of p) ≡ uniform_weight kind factors p }
-{
-    [
-        factors.uniform_weight(kind, Owner::Remaining),
-        factors.uniform_weight(kind, Owner::Lane1),
-        factors.uniform_weight(kind, Owner::Lane2),
-        factors.uniform_weight(kind, Owner::Lane3),
-        factors.uniform_weight(kind, Owner::Other),
-    ]
 }
 
 // The lanes of a carriageway, which fit between its kerbs.
@@ -96,8 +68,8 @@ impl<'a> LoadedCarriageway<'a> {
             factors,
             areas,
             tandems,
-            tandem_weights: tandem_weights(kind, factors),
-            uniform_weights: uniform_weights(kind, factors),
+            tandem_weights: OWNERS.map(|owner| factors.tandem_weight(kind, owner)),
+            uniform_weights: OWNERS.map(|owner| factors.uniform_weight(kind, owner)),
             sums: running_sums(areas, slices),
         }
     }

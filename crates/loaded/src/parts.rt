@@ -23,38 +23,28 @@ pub fn kerb_count(owner: Owner, at: usize) -> u64
 }
 
 impl LoadedCarriageway<'_> {
-    // The area of an owner's part that begins at slice `at`.
-    fn area(&self, owner: Owner, at: usize) -> u64
+    // What the tandem of an owner's part that begins at slice `at` counts, and what the uniform load on its slices does.
+    fn shares(&self, owner: Owner, at: usize) -> (u64, u64)
         requires { at + width self.now.lane owner ≤ self.now.slices }
-        ensures { result ≡ area_over (loads_of self.now) at (width self.now.lane owner) }
+        ensures tandem { result.0 ≡ tandem_weight self.now.kind self.now.factors owner * (loads_of self.now).top at }
+        ensures tandem_low { result.0 ≤ 4800000000000000 }
+        ensures uniform { result.1 ≡ uniform_weight self.now.kind self.now.factors owner * area_over (loads_of self.now) at (width self.now.lane owner) }
+        ensures uniform_low { result.1 ≤ 43200000000000000 }
     {
-        self.sums[at + width_of(self.lane, owner)] - self.sums[at]
+        let number = usize::from(u8::from(owner));
+        let area = self.sums[at + width_of(self.lane, owner)] - self.sums[at];
+        let tandem = self.tandem_weights[number] * self.tandems[at].t;
+        let uniform = self.uniform_weights[number] * area;
+        (tandem, uniform)
     }
 
-    // What the tandem of an owner's lane counts that begins at slice `at`; no other owner has one.
-    fn tandem_effect(&self, owner: Owner, at: usize) -> u64
-        requires { at + width self.now.lane owner ≤ self.now.slices }
-        ensures share { result ≡ tandem_weight self.now.kind self.now.factors owner * (loads_of self.now).top at }
-        ensures low { result ≤ 4800000000000000 }
-    {
-        self.tandem_weights[owner.number() as usize] * self.tandems[at].t
-    }
-
-    // What the uniform load counts on an owner's part that begins at slice `at`.
-    fn uniform_effect(&self, owner: Owner, at: usize) -> u64
-        requires { at + width self.now.lane owner ≤ self.now.slices }
-        ensures share { result ≡ uniform_weight self.now.kind self.now.factors owner * area_over (loads_of self.now) at (width self.now.lane owner) }
-        ensures low { result ≤ 43200000000000000 }
-    {
-        self.uniform_weights[owner.number() as usize] * self.area(owner, at)
-    }
-
-    // The rounded effect of an owner's part that begins at slice `at`: its tandem, and the uniform load on its slices.
+    // The rounded effect of an owner's part that begins at slice `at`.
     pub fn effect(&self, owner: Owner, at: usize) -> u64
         requires { at + width self.now.lane owner ≤ self.now.slices }
         ensures { result ≡ effect_of (loads_of self.now) owner at }
     {
-        self.tandem_effect(owner, at) + self.uniform_effect(owner, at)
+        let (tandem, uniform) = self.shares(owner, at);
+        tandem + uniform
     }
 }
 

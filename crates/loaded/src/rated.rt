@@ -28,7 +28,7 @@ pub fn place_loads<W: Worth + Copy>(
     place(loads, bests, owners, loads.lanes)
 }
 
-// The placement of a figure, by the rounded effect alone.
+// The placement of a figure, by the rounded effect alone: the instance in which the mirrored promise needs no premise.
 pub fn place_figure(loads: &LoadedCarriageway, bests: &mut [Option<u64>], owners: &mut [u8]) -> u64
     requires long { 24 * (loads.now.slices + 1) ≤ length bests.old }
     requires room { loads.now.slices ≤ length owners.old }
@@ -41,7 +41,7 @@ pub fn place_figure(loads: &LoadedCarriageway, bests: &mut [Option<u64>], owners
     place_loads::<u64>(loads, bests, owners)
 }
 
-// The placement of a drawing, by the rounded effect and then the kerb count.
+// The placement of a drawing, by the rounded effect and then the kerb count: the other instance, which makes no mirrored promise.
 pub fn place_drawing(
     loads: &LoadedCarriageway,
     bests: &mut [Option<Kerbed>],

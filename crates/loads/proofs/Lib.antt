@@ -1,6 +1,6 @@
-pub mod Numbers
-pub mod Filling
+pub mod Each
 pub mod Counts
+pub mod Axles
 pub mod Pairing
 pub mod Choosing
 pub mod Wheels

@@ -23,6 +23,6 @@ pub record TandemsFilled (s : Shape) (c : Carriageway) (before after : List Tand
   pub beyond : (x : ℕ) → breadth c ≤ x → slice_index_or after x no_tandem ≡ slice_index_or before x no_tandem
 
 -- the tandem of the lane of l slices from row x on, or none where that is past the last row
-pub record TandemAt (zs : List ℕ) (ys : List ℤ) (slices l x : ℕ) (t : Tandem) : Type 0 where
-  pub fits : x + l ≤ slices → IsTandem (lane_line zs ys x l) t.t t.place
+pub record TandemAt (n : ℕ) (zs : List ℕ) (ys : List (List ℤ)) (slices l x : ℕ) (t : Tandem) : Type 0 where
+  pub fits : x + l ≤ slices → IsTandem (lane_line n zs ys x l) t.t t.place
   pub none : slices < x + l → t ≡ no_tandem

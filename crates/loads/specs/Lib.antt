@@ -1,4 +1,5 @@
 pub mod Held
+pub mod Axles
 pub mod Peaks
 pub mod Grids
 pub mod Filled

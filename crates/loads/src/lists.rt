@@ -3,48 +3,41 @@
 ghost use Rattle.std.specs.Prelude.{◌+◌, ◌≤◌, length};
 ghost use Rattle.surface.specs.Shape.{Shape};
 ghost use Rattle.model.specs.Lanes.{breadth};
-ghost use Rattle.loads.specs.Grids.{Ready, Read};
+ghost use Rattle.loads.specs.Grids.{Read};
 ghost use Rattle.loads.specs.Filled.{AreasFilled, TandemsFilled};
 
-use crate::areas::write_areas;
 use crate::grid::Grid;
-use crate::lanes::write_tandems;
-use crate::segments::{Tracks, segments_ahead, segments_behind};
+use crate::road::Road;
 use model::lanes::Carriageway;
 use model::tandems::Tandem;
 use surface::Surface;
 
 // Writes A of each slice of the carriageway, of whatever surface the grid was read from.
+// A carriageway may have any width (docs/DECISIONS.md), so each of the two asks that it has at most 300 slices.
 pub fn fill_areas(grid: &Grid, carriageway: Carriageway, areas: &mut [u64])
-    requires grid { Ready carriageway grid.now }
+    requires slices { breadth carriageway ≤ 300 }
     requires room { breadth carriageway ≤ length areas.old }
     ensures { (s : Shape) → Read s carriageway grid.now → AreasFilled s carriageway areas.old areas.new }
 {
-    let places = &grid.places[0..grid.stations];
-    write_areas(places, &grid.heights, carriageway.slices(), areas);
+    let road = Road { grid, carriageway };
+    let slices = carriageway.slices();
+    for (j, area) in areas[..slices].iter_mut().enumerate() {
+        *area = road.area(j);
+    }
 }
 
 // Writes T and its place for each slice of the carriageway at which a lane can begin, and no tandem for the others.
+// A loop beside that of the areas: a shared one would take the list, its kind and the writer as parameters.
 pub fn fill_tandems(grid: &Grid, carriageway: Carriageway, tandems: &mut [Tandem])
-    requires grid { Ready carriageway grid.now }
+    requires slices { breadth carriageway ≤ 300 }
     requires room { breadth carriageway ≤ length tandems.old }
     ensures { (s : Shape) → Read s carriageway grid.now → TandemsFilled s carriageway tandems.old tandems.new }
 {
-    let places = &grid.places[0..grid.stations];
-    let ahead = segments_ahead(places);
-    let behind = segments_behind(places);
-    let tracks = Tracks {
-        places,
-        ahead: &ahead,
-        behind: &behind,
-    };
-    write_tandems(
-        tracks,
-        &grid.heights,
-        carriageway.slices(),
-        carriageway.lane_slices(),
-        tandems,
-    );
+    let road = Road { grid, carriageway };
+    let slices = carriageway.slices();
+    for (x, tandem) in tandems[..slices].iter_mut().enumerate() {
+        *tandem = road.tandem(x);
+    }
 }
 
 // Both lists of a carriageway on a surface.

@@ -1,68 +1,49 @@
-// The segments under the axles, for every place that is tried: they depend on the places alone.
+// The other axle of each tandem with an axle at a station: it depends on the places alone.
 
-ghost use Rattle.std.specs.Prelude.{◌+◌, ◌-◌, ◌<◌, ◌≤◌, length, slice_index};
-ghost use Rattle.loads.specs.Held.{Places};
-ghost use Rattle.loads.specs.Peaks.{Under, AheadOf, BehindOf};
+ghost use Rattle.std.specs.Prelude.{ℕ, ◌-◌, ◌<◌, ◌≤◌, slice_index, slice_index_or};
+ghost use Rattle.loads.specs.Axles.{Under, OtherIs, OthersAre};
+ghost use Rattle.loads.specs.declared.others.Others.{Others as TheOthers};
 
-use crate::held::STATIONS;
+use crate::others::{Axle, Other, Others};
+use crate::stations::{STATIONS, Stations};
 
-// From the rear axle to the second one, in mm.
-pub(crate) const AXLES_APART: u32 = 1200;
-
-// The places of the stations; for each, the segment under the second axle where the rear axle is at the station, and
-// the segment under the rear axle where the second axle is.
-#[derive(Clone, Copy)]
-pub(crate) struct Tracks<'a> {
-    pub places: &'a [u32],
-    pub ahead: &'a [usize],
-    pub behind: &'a [usize],
-}
-
-// The segment that holds a place, looked for from the segment `from` on.
-fn segment_under(places: &[u32], from: usize, place: u32) -> usize
-    requires inside { from + 1 < length places.now }
-    requires after { slice_index places.now from ≤ place }
-    requires on { place ≤ slice_index places.now (length places.now - 1) }
-    ensures { Under places.now result place }
-{
-    let mut k = from;
-    'search: loop {
-        if place <= places[k + 1] {
-            break 'search k;
-        }
-        k += 1;
-    }
-}
-
-// For each station, the segment under the second axle where the rear axle is at the station.
-pub(crate) fn segments_ahead(places: &[u32]) -> [usize; STATIONS]
-    requires { Places places.now }
-    ensures { AheadOf places.now result }
-{
-    let last = places[places.len() - 1];
-    let mut segments = [0; STATIONS];
-    let mut k = 0;
-    for i in 0..places.len() {
-        if places[i] + AXLES_APART <= last {
-            k = segment_under(places, k, places[i] + AXLES_APART);
-            segments[i] = k;
+impl Stations {
+    // The segment that holds a place, by a labelled search, as a rule of the project asks.
+    fn segment_under(&self, place: u32) -> usize
+        requires { place ≤ slice_index self.now.places (self.now.count - 1) }
+        ensures { Under self.now.count self.now.places result place }
+    {
+        let mut k = 0;
+        'search: loop {
+            if place <= self.places[k + 1] {
+                break 'search k;
+            }
+            k += 1;
         }
     }
-    segments
-}
 
-// For each station, the segment under the rear axle where the second axle is at the station.
-pub(crate) fn segments_behind(places: &[u32]) -> [usize; STATIONS]
-    requires { Places places.now }
-    ensures { BehindOf places.now result }
-{
-    let mut segments = [0; STATIONS];
-    let mut k = 0;
-    for i in 0..places.len() {
-        if places[i] >= AXLES_APART {
-            k = segment_under(places, k, places[i] - AXLES_APART);
-            segments[i] = k;
-        }
+    // The other axle of the tandem with this axle at station i.
+    fn other(&self, axle: Axle, i: usize) -> Option<Other>
+        requires { i < self.now.count }
+        ensures { OtherIs self.now.count self.now.places axle i result }
+    {
+        let end = self.places[self.count - 1];
+        let place = axle.other(self.places[i], end)?;
+        let segment = self.segment_under(place);
+        Some(Other { place, segment })
     }
-    segments
+
+    // The other axles for each station.
+    pub(crate) fn others(&self) -> [Others; STATIONS]
+        ensures { (i : ℕ) (o : TheOthers) → i < self.now.count → OthersAre self.now.count self.now.places i (slice_index_or result i o) }
+    {
+        let mut all = [Others::default(); STATIONS];
+        for (i, others) in all[..self.count].iter_mut().enumerate() {
+            *others = Others {
+                ahead: self.other(Axle::Rear, i),
+                behind: self.other(Axle::Second, i),
+            };
+        }
+        all
+    }
 }

@@ -1,73 +1,54 @@
 // The sums under both axles, and which of two is the better.
 
-ghost use Rattle.std.specs.Prelude.{◌≡◌, ◌+◌, ◌-◌, ◌*◌, ◌<◌, ◌≤◌, true, false, length, pos, ◌*ℤ◌, Some, unsigned_abs};
-ghost use Rattle.loads.specs.Held.{Places, Values, line_of};
-ghost use Rattle.loads.specs.Peaks.{Under, Ranged, Paired, Over, Chosen};
+ghost use Rattle.std.specs.Prelude.{◌≡◌, ◌<◌, true, false, min, Some, MatchOption, slice_index};
+ghost use Rattle.loads.specs.declared.peaks.Peak.{Peak as ThePeak};
+ghost use Rattle.loads.specs.Axles.{Under};
+ghost use Rattle.loads.specs.Grids.{line_on};
+ghost use Rattle.loads.specs.Peaks.{Ranged, Paired, Over, Better};
 
+use crate::line::Line;
+use crate::others::Other;
 use crate::peaks::Peak;
 
-// A value times a length.
-fn weighted(v: i32, by: u32) -> i64
-    requires { (unsigned_abs v ≤ 400000) × (by ≤ 200000) }
-    ensures value { result ≡ v *ℤ pos by }
-    ensures within { unsigned_abs result ≤ 400000 * by }
-{
-    v as i64 * by as i64
-}
-
-// A sum times a length.
-fn crossed(sum: i64, by: u32) -> i64
-    requires { (unsigned_abs sum ≤ 160000000000) × (by ≤ 200000) }
-    ensures { result ≡ sum *ℤ pos by }
-{
-    sum * by as i64
-}
-
-// The value at station i with the value at the place `other`, which segment k holds.
-pub(crate) fn paired(
-    places: &[u32],
-    values: &[i32],
-    i: usize,
-    k: usize,
-    other: u32,
-    rear: u32,
-) -> Peak
-    requires places { Places places.now }
-    requires values { Values 400000 places.now values.now }
-    requires there { i < length places.now }
-    requires under { Under places.now k other }
-    ensures sum { Paired (line_of places.now values.now) i other result }
-    ensures place { result.place ≡ rear }
-{
-    let span = places[k + 1] - places[k];
-    let here = weighted(values[i], span);
-    let left = weighted(values[k], places[k + 1] - other);
-    let right = weighted(values[k + 1], other - places[k]);
-    Peak {
-        sum: here + (left + right),
-        span,
-        place: rear,
+impl Line<'_> {
+    // The sum of the tandem with an axle at station i and its other axle at `other`.
+    pub(crate) fn peak(self, i: usize, other: Other) -> Peak
+        requires there { i < self.grid.now.stations.count }
+        requires under { Under self.grid.now.stations.count self.grid.now.stations.places other.segment other.place }
+        ensures sum { Paired (line_on self.entry.grid.now self.entry.values.now) i other.place result }
+        ensures place { result.place ≡ min (slice_index self.entry.grid.now.stations.places i) other.place }
+    {
+        let places = &self.grid.stations.places;
+        let k = other.segment;
+        let span = places[k + 1] - places[k];
+        let here = i64::from(self.values[i]) * i64::from(span);
+        let left = i64::from(self.values[k]) * i64::from(places[k + 1] - other.place);
+        let right = i64::from(self.values[k + 1]) * i64::from(other.place - places[k]);
+        Peak {
+            sum: here + (left + right),
+            span,
+            place: places[i].min(other.place),
+        }
     }
 }
 
 // Whether `new` has the greater sum, or the same at a smaller place.
+// No Ord on Peak: 3 over 6 and 1 over 2 are level and not equal.
+#[tactic(auto, using(crate::proofs::Choosing::over_then, crate::proofs::Choosing::over_level, crate::proofs::Choosing::over_else))]
 fn over(new: Peak, old: Peak) -> bool
     requires { (Ranged new) × (Ranged old) }
     ensures { elim result [ true ↦ Over new old | false ↦ Over old new ] }
 {
-    let a = crossed(new.sum, old.span);
-    let b = crossed(old.sum, new.span);
+    let a = new.sum * i64::from(old.span);
+    let b = old.sum * i64::from(new.span);
     a > b || (a == b && new.place < old.place)
 }
 
-// The better of the best so far and a new one.
-pub(crate) fn better(best: Option<Peak>, new: Peak) -> Option<Peak>
+// The better of the best so far, if there is one, and a new one.
+pub(crate) fn better(best: Option<Peak>, new: Peak) -> Peak
     requires new { Ranged new }
-    requires old { (p : Peak) → best ≡ Some p → Ranged p }
-    ensures { Chosen best new result }
+    requires best { (p : ThePeak) → best ≡ Some p → Ranged p }
+    ensures { MatchOption best (result ≡ new) (λ old. Better old new result) }
 {
-    match best {
-        None => Some(new),
-        Some(old) => { if over(new, old) { Some(new) } else { Some(old) } }
-    }
+    best.map_or(new, |old| if over(new, old) { new } else { old })
 }

@@ -1,91 +1,60 @@
 // T and its place on a line of values, by trying every place with an axle at a station.
 
-ghost use Rattle.std.specs.Prelude.{◌+◌, ◌-◌, ◌*◌, ◌<◌, ◌≤◌, length, slice_index};
+ghost use Rattle.std.specs.Prelude.{◌≡◌, ◌<◌, Some, slice_index};
 ghost use Rattle.lines.specs.Lines.{IsTandem};
-ghost use Rattle.loads.specs.Held.{Places, Values, line_of};
-ghost use Rattle.loads.specs.Peaks.{Under, Tracked, Good, Tried, Best};
+ghost use Rattle.loads.specs.declared.others.Other.{Other as TheOther};
+ghost use Rattle.loads.specs.Axles.{Under};
+ghost use Rattle.loads.specs.Grids.{line_on};
+ghost use Rattle.loads.specs.Peaks.{AxlesAt, Good, Tried, Best};
 
+use crate::line::Line;
+use crate::others::Other;
 use crate::peaks::Peak;
-use crate::segments::{AXLES_APART, Tracks};
-use crate::sums::{better, paired};
+use crate::sums::better;
 use model::tandems::Tandem;
 
 // T counts so many for a sum of 1.
 const SCALE: u64 = 10_000;
 
-// Tries the tandem with its rear axle at station i, where segment k holds the second axle.
-fn try_rear(places: &[u32], values: &[i32], i: usize, k: usize, best: Option<Peak>) -> Option<Peak>
-    requires places { Places places.now }
-    requires values { Values 400000 places.now values.now }
-    requires there { i < length places.now }
-    requires under { slice_index places.now i + 1200 ≤ slice_index places.now (length places.now - 1) → Under places.now k (slice_index places.now i + 1200) }
-    requires good { Good (line_of places.now values.now) best }
-    ensures { Tried (line_of places.now values.now) best (slice_index places.now i + 1200 ≤ slice_index places.now (length places.now - 1)) (slice_index places.now i) result }
-{
-    let z = places[i];
-    if z + AXLES_APART > places[places.len() - 1] {
-        return best;
+impl Line<'_> {
+    // Tries the tandem with an axle at station i and its other axle at `other`, if there is one.
+    fn tried(self, i: usize, other: Option<Other>, best: Option<Peak>) -> Option<Peak>
+        requires there { i < self.grid.now.stations.count }
+        requires apart { (o : TheOther) → other ≡ Some o → AxlesAt (slice_index self.grid.now.stations.places i) o.place }
+        requires under { (o : TheOther) → other ≡ Some o → Under self.grid.now.stations.count self.grid.now.stations.places o.segment o.place }
+        requires good { Good (line_on self.grid.now self.values.now) best }
+        ensures { Tried (line_on self.entry.grid.now self.entry.values.now) best (slice_index self.entry.grid.now.stations.places i) other result }
+    {
+        let Some(other) = other else {
+            return best;
+        };
+        let new = self.peak(i, other);
+        Some(better(best, new))
     }
-    better(best, paired(places, values, i, k, z + AXLES_APART, z))
-}
 
-// Tries the tandem with its second axle at station i, where segment k holds the rear axle.
-fn try_second(
-    places: &[u32],
-    values: &[i32],
-    i: usize,
-    k: usize,
-    best: Option<Peak>,
-) -> Option<Peak>
-    requires places { Places places.now }
-    requires values { Values 400000 places.now values.now }
-    requires there { i < length places.now }
-    requires under { 1200 ≤ slice_index places.now i → Under places.now k (slice_index places.now i - 1200) }
-    requires good { Good (line_of places.now values.now) best }
-    ensures { Tried (line_of places.now values.now) best (1200 ≤ slice_index places.now i) (slice_index places.now i - 1200) result }
-{
-    let z = places[i];
-    if z < AXLES_APART {
-        return best;
+    // The greatest sum, at the first place that attains it.
+    fn greatest(self) -> Option<Peak>
+        ensures { Best (line_on self.entry.grid.now self.entry.values.now) result }
+    {
+        let mut best = None;
+        let count = self.grid.stations.count;
+        for (i, others) in self.grid.others[..count].iter().enumerate() {
+            best = self.tried(i, others.ahead, best);
+            best = self.tried(i, others.behind, best);
+        }
+        best
     }
-    better(
-        best,
-        paired(places, values, i, k, z - AXLES_APART, z - AXLES_APART),
-    )
-}
 
-// The greatest sum, at the first place that attains it.
-fn greatest(tracks: Tracks, values: &[i32]) -> Option<Peak>
-    requires tracks { Tracked tracks.places.now tracks.ahead.now tracks.behind.now }
-    requires values { Values 400000 tracks.places.now values.now }
-    ensures { Best (line_of tracks.entry.places.now values.now) result }
-{
-    let mut best = None;
-    for i in 0..tracks.places.len() {
-        best = try_rear(tracks.places, values, i, tracks.ahead[i], best);
-        best = try_second(tracks.places, values, i, tracks.behind[i], best);
-    }
-    best
-}
-
-// T and the place of the tandem on a line.
-pub(crate) fn tandem_on(tracks: Tracks, values: &[i32]) -> Tandem
-    requires tracks { Tracked tracks.places.now tracks.ahead.now tracks.behind.now }
-    requires values { Values 400000 tracks.places.now values.now }
-    ensures { IsTandem (line_of tracks.entry.places.now values.now) result.t result.place }
-{
-    match greatest(tracks, values) {
-        None => Tandem::none(),
-        Some(p) => {
-            if p.sum > 0 {
-                let t = (SCALE * p.sum as u64).div_ceil(p.span as u64);
-                Tandem {
-                    t,
-                    place: Some(p.place),
-                }
-            } else {
-                Tandem::none()
-            }
+    // T and the place of the tandem.
+    pub(crate) fn tandem(self) -> Tandem
+        ensures { IsTandem (line_on self.entry.grid.now self.entry.values.now) result.t result.place }
+    {
+        match self.greatest() {
+            Some(p) if p.sum > 0 => Tandem {
+                t: (SCALE * p.sum.unsigned_abs()).div_ceil(u64::from(p.span)),
+                place: Some(p.place),
+            },
+            _ => Tandem::none(),
         }
     }
 }

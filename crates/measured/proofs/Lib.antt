@@ -1,4 +1,4 @@
 pub mod Ordinates
-pub mod Padded
+mod Parted
 pub mod Sound
 mod Spreading

@@ -1,6 +1,5 @@
 -- A header and rows that the verdicts pass are lawful.
-use Rattle.std.proofs.Common.{◌≡◌, ℕ, zero, suc, ◌+◌, ◌-◌, ◌<◌, ◌≤◌, true, false, ◌&&◌, ◌||◌, eqb, ltb, List, [], ◌∷◌, map, length, get_or, take, replicate, ℤ, pos, negsuc, nat_abs, ◌≤ℤ◌, Ok, sym, ap, ◌∙◌, arith}
-use borrow.Author.Differences.{ints}
+use Rattle.std.proofs.Common.{◌≡◌, ℕ, zero, suc, ◌+◌, ◌-◌, ◌<◌, ◌≤◌, true, false, ◌&&◌, ◌||◌, eqb, ltb, List, [], ◌∷◌, map, length, get_or, take, replicate, ℤ, pos, negsuc, nat_abs, Ok, sym, ap, ◌∙◌, arith}
 use lib.Signed.{lt_z, le_z}
 use Rattle.std.proofs.lemmas.List.{get_or-take, get_or_append_left, get_or-map, length-append, length-map, length-replicate}
 use Rattle.std.proofs.lemmas.Bool.{ltb-true, ltb-false, eqb-true, and_parts, cond-false, ne_eqb, or_parts, leb-false}
@@ -58,10 +57,6 @@ on_deck (pos n) (pos p) low e = leb-false n p e
 on_deck (negsuc n) (pos p) low e = absurd (grind arith)
 on_deck n (negsuc p) low e = absurd (grind arith)
 
-natural : (p : ℤ) → lt_z p (pos 0) ≡ false → pos 0 ≤ℤ p
-natural (pos p) e = omega (arith, ints)
-natural (negsuc p) e = absurd (grind arith)
-
 risen : (p q : ℤ) → lt_z p (pos 0) ≡ false → lt_z q (pos 0) ≡ false → le_z q p ≡ false → nat_abs p < nat_abs q
 risen p (pos q) low high e = on_deck (pos q) p low e
 risen p (negsuc q) low high e = absurd (grind arith)
@@ -114,6 +109,3 @@ module _ (n : ℤ) (ps : List ℤ) (x : Unit {0}) (e : Ok x ≡ header_judged n 
         (λ i h. let k = path_rises i h in let a = at i (omega arith) in let b = at (i + 1) h in omega arith),
         (λ i h. let k = path_low i h in let a = at i h in omega arith),
       )
-
-  pub paths_natural : (i : ℕ) → i < length ps → pos 0 ≤ℤ get_or ps i (pos 0)
-  paths_natural i h = natural (get_or ps i (pos 0)) (path_passed i h).0

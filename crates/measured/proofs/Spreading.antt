@@ -1,54 +1,31 @@
 -- The count of paths before a slice says between which two paths it lies.
-use Rattle.std.proofs.Common.{◌≡◌, ℕ, zero, suc, ◌+◌, ◌-◌, ◌<◌, ◌≤◌, eqb, ltb, ◌≢◌, List, get_or, take, pos, refl, ap, ◌∙◌, ⊎_elim, add-zero, arith}
+use Rattle.std.proofs.Common.{◌≡◌, ℕ, ◌+◌, ◌-◌, ◌<◌, ◌≤◌, eqb, ltb, ◌≢◌, List, get_or, take, pos, refl, ap, ◌∙◌, arith}
 use Rattle.std.proofs.lemmas.List.{length-take-le, get_or-take}
-use Rattle.std.proofs.lemmas.List.Sums.{prefix_len-le-length}
-use Rattle.std.proofs.lemmas.Bool.{cases_lt, cond-true, cond-false, eq-eqb, ne_eqb}
+use Rattle.std.proofs.lemmas.List.Sums.{prefix_len_is}
+use Rattle.surface.specs.Rising.{rises}
+use Rattle.std.proofs.lemmas.Bool.{lt-ltb, le-ltb, cond-true, cond-false, eq-eqb, ne_eqb}
 use Rattle.measured.specs.Laid.{Laid}
-use Rattle.measured.specs.Mixes.{under, reached}
 use Rattle.measured.specs.Spread.{before, between, spread_past}
 use Rattle.measured.specs.Spreading.{BetweenPaths, LeftOfPaths, RightOfPaths}
 
 module _ (n m : ℕ) (ps : List ℕ) (w : Laid n m ps) where
-  climb : (i d : ℕ) → i + d < m → get_or ps i 0 ≤ get_or ps (i + d) 0
-  climb i zero h = simp add-zero (omega arith)
-  climb i (suc d) h =
-      let up = climb i d (omega arith) in
-      let here = w.1 (i + d) (omega arith) in
-      let e : get_or ps (i + d + 1) 0 ≡ get_or ps (i + suc d) 0 = ap (λ k. get_or ps k 0) (omega arith) in
-      omega arith
-
-  rises : (i k : ℕ) → i ≤ k → k < m → get_or ps i 0 ≤ get_or ps k 0
-  rises i k h b =
-      let e : get_or ps (i + (k - i)) 0 ≡ get_or ps k 0 = ap (λ p. get_or ps p 0) (omega arith) in
-      let up = climb i (k - i) (omega arith) in
-      omega arith
+  pub ascending : (i k : ℕ) → i ≤ k → k < m → get_or ps i 0 ≤ get_or ps k 0
+  ascending = rises (λ k. get_or ps k 0) m w.1
 
   module _ (j : ℕ) where
-    few : before m ps j ≤ m
-    few = let a = prefix_len-le-length (λ p. ltb p j) (take m ps) in let b = length-take-le m ps w.0.4 in omega arith
-
-    -- the paths that are counted lie before j, and the next does not
-    counted : (k : ℕ) → k < before m ps j → get_or ps k 0 < j
-    counted k h = let s : k < m = (let f = few in omega arith) in simp get_or-take at (under j (take m ps) k h)
-
-    next : before m ps j < m → j ≤ get_or ps (before m ps j) 0
-    next h = let long = length-take-le m ps w.0.4 in simp get_or-take at (reached j (take m ps) (omega arith))
-
-    -- so they are as many as a path says that lies before j, whose next does not
+    -- as many paths lie before j as a path says that does, if the next one does not
     exactly : (i : ℕ) → i ≤ m → ((k : ℕ) → k + 1 ≡ i → get_or ps k 0 < j) → (i < m → j ≤ get_or ps i 0) → before m ps j ≡ i
     exactly i h low high =
-        let f = few in
-        ⊎_elim
-        (λ less.
-        let a = next (omega arith) in
-        let b = low (i - 1) (omega arith) in
-        let c = rises (before m ps j) (i - 1) (omega arith) (omega arith) in
-        absurd (omega arith))
-        (λ more. ⊎_elim
-        (λ past. let a = counted i past in let b = high (omega arith) in absurd (omega arith))
-        (λ le. omega arith)
-        (cases_lt i (before m ps j)))
-        (cases_lt (before m ps j) i)
+        let long = length-take-le m ps w.0.4 in
+        prefix_len_is (λ p. ltb p j) (take m ps) i 0 (omega arith)
+        (λ k less.
+        let here : k < m = omega arith in
+        let up = ascending k (i - 1) (omega arith) (omega arith) in
+        let last = low (i - 1) (omega arith) in
+        simp get_or-take (lt-ltb (get_or ps k 0) j (omega arith)))
+        (λ more.
+        let here : i < m = omega arith in
+        simp get_or-take (le-ltb (get_or ps i 0) j (high here)))
 
 pub left_of_paths : LeftOfPaths
 left_of_paths n m ps vs j w h =

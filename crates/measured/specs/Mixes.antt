@@ -1,8 +1,8 @@
 -- The ordinate of every slice is in the range of the ordinates at the paths, so that filled rows make a lawful surface.
-use Rattle.std.specs.Prelude.{◌≡◌, ℕ, zero, suc, ◌+◌, ◌-◌, ◌*◌, ◌<◌, ◌≤◌, Bool, true, false, cond, ltb, List, [], ◌∷◌, length, take, drop, ℤ, pos, ◌+ℤ◌, ◌*ℤ◌, ◌==◌, nat_lt, slice_index, slice_index_or, unsigned_abs, refl}
-use Rattle.std.proofs.Common.{ap, arith, one-add}
+use Rattle.std.specs.Prelude.{◌≡◌, ℕ, ◌+◌, ◌-◌, ◌*◌, ◌<◌, ◌≤◌, ltb, List, length, take, drop, ℤ, pos, ◌+ℤ◌, ◌*ℤ◌, ◌==◌, slice_index, slice_index_or, unsigned_abs}
+use Rattle.std.proofs.Common.{ap, arith}
 use Rattle.std.proofs.lemmas.List.{length-take, get_or-take}
-use Rattle.std.proofs.lemmas.List.Sums.{prefix_len-drop_yes, prefix_len-drop_no, prefix_len-drop_all, prefix_len-le-length}
+use Rattle.std.proofs.lemmas.List.Sums.{prefix_len_passes, prefix_len_stops, prefix_len-le-length, prefix_len-drop_all, prefix_len-drop_no, prefix_len-drop_yes}
 use Rattle.std.proofs.lemmas.Bool.{lt-ltb, le-ltb, ltb-true, ltb-false, eqb-false, cond_both}
 use Rattle.std.specs.List.{prefix_len}
 use Rattle.surface.specs.Shape.{Lawful}
@@ -19,6 +19,15 @@ between_within p v q u j b lt lo hi hv hu =
     quotient_within (v *ℤ pos (q - j) +ℤ u *ℤ pos (j - p)) (q - p) b (omega arith) (omega arith)
 
 -- ---- the paths before a slice
+-- each path that is counted lies before j
+pub under : (j : ℕ) (xs : List ℕ) (k : ℕ) → k < prefix_len (λ p. ltb p j) xs → slice_index xs k < j
+under j xs k h = ltb-true (slice_index xs k) j (prefix_len_passes (λ p. ltb p j) xs k 0 h)
+
+-- the next one does not
+pub reached : (j : ℕ) (xs : List ℕ) → prefix_len (λ p. ltb p j) xs < length xs → j ≤ slice_index xs (prefix_len (λ p. ltb p j) xs)
+reached j xs h = ltb-false (slice_index xs (prefix_len (λ p. ltb p j) xs)) j (prefix_len_stops (λ p. ltb p j) xs 0 h)
+
+-- one path more, the first that does not lie before j, and none left
 pub before_more : (m : ℕ) (ps : List ℕ) (j i : ℕ) → i < m → m ≤ length ps → slice_index ps i < j → prefix_len (λ p. ltb p j) (drop i (take m ps)) ≡ 1 + prefix_len (λ p. ltb p j) (drop (i + 1) (take m ps))
 before_more m ps j i h few lt =
     let k : i < length (take m ps) = simp length-take (omega arith) in
@@ -31,25 +40,6 @@ before_stops m ps j i h few le =
 
 pub before_all : (m : ℕ) (ps : List ℕ) (j i : ℕ) → m ≤ i → prefix_len (λ p. ltb p j) (drop i (take m ps)) ≡ 0
 before_all m ps j i h = prefix_len-drop_all (λ p. ltb p j) (take m ps) i (simp length-take (omega arith))
-
-step_under : (j x : ℕ) (xs : List ℕ) → ((k : ℕ) → k < prefix_len (λ p. ltb p j) xs → slice_index xs k < j) → (t : Bool) → nat_lt x j ≡ t → (k : ℕ) → k < cond t (1 + prefix_len (λ p. ltb p j) xs) 0 → slice_index (x ∷ xs) k < j
-step_under j x xs more true e zero h = ltb-true x j e
-step_under j x xs more true e (suc k) h = more k (omega arith)
-step_under j x xs more false e k h = absurd (omega arith)
-
--- each path that is counted lies before j
-pub under : (j : ℕ) (xs : List ℕ) (k : ℕ) → k < prefix_len (λ p. ltb p j) xs → slice_index xs k < j
-under j [] k h = absurd (omega arith)
-under j (x ∷ xs) k h = step_under j x xs (under j xs) (nat_lt x j) refl k h
-
-step_reached : (j x : ℕ) (xs : List ℕ) → (prefix_len (λ p. ltb p j) xs < length xs → j ≤ slice_index xs (prefix_len (λ p. ltb p j) xs)) → (t : Bool) → nat_lt x j ≡ t → cond t (1 + prefix_len (λ p. ltb p j) xs) 0 < length (x ∷ xs) → j ≤ slice_index (x ∷ xs) (cond t (1 + prefix_len (λ p. ltb p j) xs) 0)
-step_reached j x xs more true e h = rw one-add (more (omega arith))
-step_reached j x xs more false e h = ltb-false x j e
-
--- the next one does not
-pub reached : (j : ℕ) (xs : List ℕ) → prefix_len (λ p. ltb p j) xs < length xs → j ≤ slice_index xs (prefix_len (λ p. ltb p j) xs)
-reached j [] h = absurd (omega arith)
-reached j (x ∷ xs) h = step_reached j x xs (reached j xs) (nat_lt x j) refl h
 
 past_within : (i n m : ℕ) (ps : List ℕ) (vs : List ℤ) (j b : ℕ) → Laid n m ps → ((k : ℕ) → k < m → unsigned_abs (slice_index_or vs k (pos 0)) ≤ b) → i ≤ m → (0 < i → slice_index ps (i - 1) < j) → (i < m → j ≤ slice_index ps i) → unsigned_abs (spread_past i m ps vs j) ≤ b
 past_within i n m ps vs j b w h few left right =

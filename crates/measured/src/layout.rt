@@ -1,15 +1,17 @@
 // The slices of a deck and its paths, and the ordinate of a slice from those at the paths.
-ghost use Rattle.std.specs.Prelude.{◌≡◌, ℕ, ◌-◌, ◌*◌, ◌<◌, ◌≤◌, ◌++◌, map, length, pos, ◌*ℤ◌, ◌≤ℤ◌, slice_index, slice_index_or, unsigned_abs};
+ghost use Rattle.std.specs.Prelude.{◌≡◌, ℕ, ◌-◌, ◌<◌, ◌≤◌, pos, ◌≤ℤ◌, slice_index, slice_index_or, unsigned_abs};
 ghost use Rattle.std.specs.Int.{int_div_euclid};
-ghost use Rattle.measured.specs.Judged.{Begun, header_judged, laid_paths};
+ghost use Rattle.measured.specs.Judged.{Begun, header_judged};
 ghost use Rattle.measured.specs.Laid.{Laid};
 ghost use Rattle.measured.specs.Spread.{before, between, spread};
 ghost use Rattle.surface.specs.Verdict.{Granted};
 
 use crate::checks::check_header;
+use crate::padding::padded;
 use surface::fault::SurfaceFault;
 
 // The slices of a deck, and those at which ordinates are measured: the first `count` of `paths`.
+// A draft is plain numbers and takes no memory, so the paths stand in eight fixed places.
 #[derive(Clone, Copy)]
 pub struct Layout {
     pub slices: usize,
@@ -18,42 +20,12 @@ pub struct Layout {
     ghost ok: { Laid slices count paths },
 }
 
-// The paths in eight places, the unused ones 0.
-fn laid(paths: &[i32]) -> [usize; 8]
-    requires few { length paths.now ≤ 8 }
-    requires natural { (i : ℕ) → i < length paths.now → pos 0 ≤ℤ slice_index_or paths.now i (pos 0) }
-    ensures { result ≡ laid_paths paths.now }
-{
-    let mut all = [0; 8];
-    for i in 0..paths.len() {
-        all[i] = paths[i] as usize;
-    }
-    all
-}
-
-// An ordinate times a number of slices.
-fn weighted(v: i32, by: usize) -> i64
-    requires { (unsigned_abs v ≤ 100000) × (by ≤ 300) }
-    ensures value { result ≡ v *ℤ pos by }
-    ensures within { unsigned_abs result ≤ 100000 * by }
-{
-    v as i64 * by as i64
-}
-
-// sum / by, rounded towards minus infinity.
+// sum / by, rounded towards minus infinity, as ordinates are.
 fn floor(sum: i64, by: i64) -> i64
     requires { pos 1 ≤ℤ by }
     ensures { result ≡ int_div_euclid sum by }
 {
     sum.div_euclid(by)
-}
-
-// sum / by, rounded towards minus infinity, which fits an ordinate.
-fn rounded_down(sum: i64, by: usize) -> i32
-    requires { (unsigned_abs sum ≤ 100000 * by) × ((0 < by) × (by ≤ 300)) }
-    ensures { result ≡ int_div_euclid sum (pos by) }
-{
-    floor(sum, by as i64) as i32
 }
 
 // (v(q - j) + u(j - p)) / (q - p), rounded towards minus infinity.
@@ -62,9 +34,9 @@ fn mix(p: usize, v: i32, q: usize, u: i32, j: usize) -> i32
     requires within { (unsigned_abs v ≤ 100000) × (unsigned_abs u ≤ 100000) }
     ensures { result ≡ between p v q u j }
 {
-    let left = weighted(v, q - j);
-    let right = weighted(u, j - p);
-    rounded_down(left + right, q - p)
+    let left = i64::from(v) * (q - j) as i64;
+    let right = i64::from(u) * (j - p) as i64;
+    floor(left + right, (q - p) as i64) as i32
 }
 
 impl Layout {
@@ -73,11 +45,10 @@ impl Layout {
         ensures { Granted (header_judged slices paths.now) result (λ l. Begun slices paths.now l.slices l.count l.paths 0) }
     {
         check_header(slices, paths)?;
-        let all = laid(paths);
         Ok(Layout {
             slices: slices as usize,
             count: paths.len(),
-            paths: all,
+            paths: padded(paths).map(|p| p.unsigned_abs() as usize),
         })
     }
 
@@ -88,12 +59,7 @@ impl Layout {
         ensures left { 0 < result → slice_index self.now.paths (result - 1) < j }
         ensures right { result < self.now.count → j ≤ slice_index self.now.paths result }
     {
-        for i in 0..self.count {
-            if self.paths[i] >= j {
-                return i;
-            }
-        }
-        self.count
+        self.paths[..self.count].partition_point(|p| *p < j)
     }
 
     // The ordinate of slice j, from those at the paths.

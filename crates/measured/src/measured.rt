@@ -5,15 +5,16 @@ ghost use Rattle.measured.specs.Mixes.{rows_lawful};
 ghost use Rattle.measured.specs.Rows.{Filled, Ranged, level_rows, rows_shape};
 ghost use Rattle.surface.specs.Verdict.{Granted, Settled};
 
-use crate::checks::{check_ordinates, check_seal};
+use crate::checks::{check_ordinates, check_row};
 use crate::layout::Layout;
 use crate::padding::padded;
 use crate::row::Row;
 use surface::Surface;
+use surface::each::check_each;
 use surface::fault::SurfaceFault;
 use surface::stations::place_fits;
 
-// A sealed surface, over rows held for reading.
+// A sealed surface, over rows held for reading: all that were lent, of which the first `stations` are filled.
 #[derive(Drop)]
 pub struct Measured<'a> {
     layout: Layout,
@@ -24,13 +25,10 @@ pub struct Measured<'a> {
 }
 
 static LEVEL: [Row; 2] = [
-    Row {
-        place: 0,
-        ordinates: [0; 8],
-    },
+    Row::BLANK,
     Row {
         place: 1,
-        ordinates: [0; 8],
+        ..Row::BLANK
     },
 ];
 
@@ -101,12 +99,29 @@ impl Draft {
                 field: 1,
             });
         }
-        check_ordinates(line, &ordinates[0..count])?;
+        check_ordinates(line, &ordinates[..count])?;
         rows[k] = Row {
             place: place as u32,
-            ordinates: padded(&ordinates[0..count]),
+            ordinates: padded(&ordinates[..count]),
         };
         self.filled = k + 1;
+        Ok(())
+    }
+
+    // What sealing checks: the rows lent, those filled, then their number.
+    fn check(&self, rows: &[Row]) -> Result<(), SurfaceFault>
+        ensures { result ≡ seal_judged self.now.layout.count rows.now self.now.filled }
+    {
+        if rows.len() < 64 {
+            return Err(SurfaceFault::Short { record: 0 });
+        }
+        check_each(self.filled, |k| check_row(&self.layout, rows, k))?;
+        if self.filled < 2 {
+            return Err(SurfaceFault::Counts {
+                record: 0,
+                field: 0,
+            });
+        }
         Ok(())
     }
 
@@ -118,17 +133,15 @@ impl Draft {
     ) -> Result<(), (Draft, SurfaceFault)>
         ensures { Settled (seal_judged self.layout.count rows.now self.filled) self result ((into.new.layout ≡ self.layout) × (into.new.stations ≡ self.filled) × (into.new.rows.now ≡ rows.now)) (into.new ≡ into.old) }
     {
-        match check_seal(self.layout.count, rows, self.filled) {
-            Ok(()) => {
-                *into = Measured {
-                    layout: self.layout,
-                    stations: self.filled,
-                    rows,
-                };
-                Ok(())
-            }
-            Err(f) => Err((self, f)),
+        if let Err(f) = self.check(rows) {
+            return Err((self, f));
         }
+        *into = Measured {
+            layout: self.layout,
+            stations: self.filled,
+            rows,
+        };
+        Ok(())
     }
 }
 
@@ -145,6 +158,7 @@ impl<'a> Surface for Measured<'a> {
         self.stations
     }
 
+    // As in `edge`, each surface reads its own rows behind a test that every surface makes.
     fn place(&self, k: usize) -> Result<u32, SurfaceFault> {
         if k >= self.stations {
             return Err(SurfaceFault::Absent);

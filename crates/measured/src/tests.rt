@@ -24,10 +24,7 @@ fn first_ordinate(draft: Draft, rows: &[Row], slice: usize) -> Result<i32, Surfa
 
 #[test]
 fn ordinates_are_rounded_down(rt: HostRuntime) -> Result<(), Fail> {
-    let mut rows = [Row {
-        place: 0,
-        ordinates: [0; 8],
-    }; 64];
+    let mut rows = [Row::BLANK; 64];
     let draft = sloped(&mut rows)?;
     assert_eq!(rt; first_ordinate(draft, &rows, 31), Ok(-1));
     Ok(())

@@ -1,10 +1,15 @@
 -- The loads of each owner and their factors, in the fine unit: one forty-millionth of a kN times an ordinate unit.
-use Rattle.std.specs.Prelude.{ℕ, ◌*◌, ◌/◌}
+use Rattle.std.specs.Prelude.{ℕ, ◌*◌, ◌/◌, List, codes}
 use Rattle.model.specs.declared.owners.Owner.{Owner}
 use Rattle.model.specs.declared.owners.Owner.TheVariants.{Remaining, Lane1, Lane2, Lane3, Other}
 use Rattle.model.specs.declared.weights.LoadKind.{LoadKind}
 use Rattle.model.specs.declared.weights.LoadKind.TheVariants.{Characteristic, Frequent}
 use Rattle.model.specs.declared.weights.Factors.{Factors}
+
+-- the word of a kind of load
+abbrev pub kind_word : LoadKind → List ℕ
+kind_word Characteristic = codes "characteristic"
+kind_word Frequent = codes "frequent"
 
 -- the load of an axle, in kN
 abbrev pub axle_load : Owner → ℕ

@@ -12,12 +12,12 @@ pub enum Owner {
     Other,
 }
 
-impl Owner {
-    // 0 for the remaining area, 1 to 3 for the lane of that number, 4 for any other lane.
-    pub fn number(self) -> u8
-        ensures { result ≡ number_of self }
-    {
-        match self {
+// 0 for the remaining area, 1 to 3 for the lane of that number, 4 for any other lane.
+impl From<Owner> for u8 {
+    ghost from_gives = { λ o n. n ≡ number_of o };
+
+    fn from(owner: Owner) -> u8 {
+        match owner {
             Owner::Remaining => 0,
             Owner::Lane1 => 1,
             Owner::Lane2 => 2,
@@ -25,8 +25,11 @@ impl Owner {
             Owner::Other => 4,
         }
     }
+}
 
+impl Owner {
     // The owner that the lane of this number is; 0 stands for the remaining area.
+    // No From: every lane from 4 up gives the same owner.
     pub fn of_lane(lane: usize) -> Owner
         ensures { number_of result ≡ min lane 4 }
     {

@@ -1,9 +1,10 @@
 // The loads of each owner by EN 1991-2, Table 4.2, with the national factors, in the fine unit of effect.
 
-ghost use Rattle.std.specs.Prelude.{◌≡◌};
-ghost use Rattle.model.specs.Weights.{tandem_load, uniform_load, tandem_factor, uniform_factor, tandem_weight, uniform_weight};
+ghost use Rattle.std.specs.Prelude.{◌≡◌, Some};
+ghost use Rattle.model.specs.Weights.{kind_word, tandem_load, uniform_load, tandem_factor, uniform_factor, tandem_weight, uniform_weight};
 
 use crate::owners::Owner;
+use std::fmt;
 
 #[derive(Clone, Copy, PartialEq, Eq, Debug)]
 pub enum LoadKind {
@@ -24,7 +25,25 @@ pub struct Factors {
     pub remaining: u32,
 }
 
+impl fmt::Display for LoadKind {
+    ghost output = { λ kind. Some (kind_word kind) };
+
+    fn fmt<W: fmt::Write>(&self, f: &mut fmt::Formatter<W>) -> fmt::Result {
+        f.write_str(self.name())
+    }
+}
+
 impl LoadKind {
+    // The word that it is printed as.
+    pub fn name(self) -> &'static str
+        ensures { result.now ≡ kind_word self }
+    {
+        match self {
+            LoadKind::Characteristic => "characteristic",
+            LoadKind::Frequent => "frequent",
+        }
+    }
+
     // C of an owner: what an axle counts for a unit ordinate under each wheel, before its factor.
     pub fn tandem_load(self, owner: Owner) -> u32
         ensures { result ≡ tandem_load self owner }
@@ -63,6 +82,18 @@ impl LoadKind {
 }
 
 impl Factors {
+    // Every factor 1.00.
+    pub const ONES: Factors = Factors {
+        tandem1: 100,
+        tandem2: 100,
+        tandem3: 100,
+        uniform1: 100,
+        uniform2: 100,
+        uniform3: 100,
+        others: 100,
+        remaining: 100,
+    };
+
     // The factor on an owner's tandem; no owner but lanes 1 to 3 has one.
     pub fn tandem_factor(self, owner: Owner) -> u32
         ensures { result ≡ tandem_factor self owner }
@@ -88,7 +119,7 @@ impl Factors {
         }
     }
 
-    // What T of an owner's lane counts for.
+    // What T of an owner's lane counts for. Beside the next: each is a table of the standard with factors of its own.
     pub fn tandem_weight(self, kind: LoadKind, owner: Owner) -> u64
         ensures { result ≡ tandem_weight kind self owner }
     {

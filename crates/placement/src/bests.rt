@@ -4,12 +4,13 @@ ghost use Rattle.std.specs.Prelude.{◌≡◌, ◌+◌, ◌*◌, ◌<◌, ◌≤
 ghost use Rattle.placing.specs.Placing.{width, worth, Placement, Greatest, Best, Filled, Bounded};
 ghost use Rattle.placing.specs.Steps.{Ready, better};
 
+use crate::entries::{Entries, Rest};
 use crate::lanes::LaneSet;
 use crate::parts::{OWNERS, Parts, width_of};
 use model::owners::Owner;
 use worths::Worth;
 
-// The greater of two worths, the first where they are level.
+// The greater of two worths, the first where they are level. No `max`: the order is the worth's own, and none is below every worth.
 fn better_of<W: Worth + Copy>(a: Option<W>, b: Option<W>) -> Option<W>
     ensures { result ≡ better W.Worth.kind a b }
 {
@@ -20,72 +21,54 @@ fn better_of<W: Worth + Copy>(a: Option<W>, b: Option<W>) -> Option<W>
     }
 }
 
-// The best worth of what can follow a part of `owner` that begins at slice `at`.
-fn following<W: Worth + Copy, P: Parts<W>>(
-    parts: &P,
-    bests: &[Option<W>],
-    at: usize,
-    left: LaneSet,
-    owner: Owner,
-) -> Option<W>
-    requires ready { Ready W.Worth.kind (P.Parts.road parts.now) (24 * at + 24) bests.now }
-    requires inside { at < (P.Parts.road parts.now).slices }
-    ensures { Greatest W.Worth.kind (λ ps. Placement (P.Parts.road parts.now) at left.numbered left.others (owner ∷ ps)) (worth W.Worth.kind (P.Parts.road parts.now) (at + width (P.Parts.road parts.now).lane owner)) result }
-{
-    let Some(rest) = left.after(owner) else {
-        return None;
-    };
-    let width = width_of(parts.lane(), owner);
-    if width > parts.slices() - at {
-        return None;
+impl<W: Worth + Copy, P: Parts<W>> Entries<'_, W, P> {
+    // The best worth of what can follow a part of `owner` that stands first in the rest.
+    fn following(&self, rest: Rest, owner: Owner) -> Option<W>
+        requires ready { Ready W.Worth.kind (P.Parts.road self.now.parts.now) (24 * rest.at + 24) self.now.bests.now }
+        requires inside { rest.at < (P.Parts.road self.now.parts.now).slices }
+        ensures { Greatest W.Worth.kind (λ ps. Placement (P.Parts.road self.now.parts.now) rest.at rest.left.numbered rest.left.others (owner ∷ ps)) (worth W.Worth.kind (P.Parts.road self.now.parts.now) (rest.at + width (P.Parts.road self.now.parts.now).lane owner)) result }
+    {
+        let left = rest.left.after(owner)?;
+        let width = width_of(self.parts.lane(), owner);
+        if width > self.parts.slices() - rest.at {
+            return None;
+        }
+        self.bests[left.entry(rest.at + width)]
     }
-    bests[rest.entry(at + width)]
-}
 
-// The best worth of the placements from slice `at` on that begin with a part of `owner`.
-pub(crate) fn begun<W: Worth + Copy, P: Parts<W>>(
-    parts: &P,
-    bests: &[Option<W>],
-    at: usize,
-    left: LaneSet,
-    owner: Owner,
-) -> Option<W>
-    requires ready { Ready W.Worth.kind (P.Parts.road parts.now) (24 * at + 24) bests.now }
-    requires inside { at < (P.Parts.road parts.now).slices }
-    ensures { Greatest W.Worth.kind (λ ps. Placement (P.Parts.road parts.now) at left.numbered left.others (owner ∷ ps)) (λ ps. worth W.Worth.kind (P.Parts.road parts.now) at (owner ∷ ps)) result }
-{
-    match following(parts, bests, at, left, owner) {
-        None => None,
-        Some(rest) => Some(parts.part(owner, at).plus(rest)),
+    // The best worth of the placements of the rest that begin with a part of `owner`.
+    pub(crate) fn begun(&self, rest: Rest, owner: Owner) -> Option<W>
+        requires ready { Ready W.Worth.kind (P.Parts.road self.now.parts.now) (24 * rest.at + 24) self.now.bests.now }
+        requires inside { rest.at < (P.Parts.road self.now.parts.now).slices }
+        ensures { Greatest W.Worth.kind (λ ps. Placement (P.Parts.road self.now.parts.now) rest.at rest.left.numbered rest.left.others (owner ∷ ps)) (λ ps. worth W.Worth.kind (P.Parts.road self.now.parts.now) rest.at (owner ∷ ps)) result }
+    {
+        let best = self.following(rest, owner)?;
+        Some(self.parts.part(owner, rest.at).plus(best))
     }
-}
 
-// The best worth of the placements of the lanes `left` from slice `at` on, or none where there is no such placement.
-fn entry<W: Worth + Copy, P: Parts<W>>(
-    parts: &P,
-    bests: &[Option<W>],
-    at: usize,
-    left: LaneSet,
-) -> Option<W>
-    requires ready { Ready W.Worth.kind (P.Parts.road parts.now) (24 * at + 24) bests.now }
-    requires inside { at ≤ (P.Parts.road parts.now).slices }
-    ensures { Best W.Worth.kind (P.Parts.road parts.now) at left.numbered left.others result }
-{
-    let slices = parts.slices();
-    if left.count() * parts.lane() > slices - at {
-        return None;
+    // The best worth of the placements of the rest, or none where there is no such placement.
+    fn best(&self, rest: Rest) -> Option<W>
+        requires ready { Ready W.Worth.kind (P.Parts.road self.now.parts.now) (24 * rest.at + 24) self.now.bests.now }
+        requires inside { rest.at ≤ (P.Parts.road self.now.parts.now).slices }
+        ensures { Best W.Worth.kind (P.Parts.road self.now.parts.now) rest.at rest.left.numbered rest.left.others result }
+    {
+        let slices = self.parts.slices();
+        if rest.left.count() * self.parts.lane() > slices - rest.at {
+            return None;
+        }
+        if rest.at == slices {
+            return Some(W::zero());
+        }
+        let mut best = None;
+        for owner in OWNERS {
+            best = better_of(best, self.begun(rest, owner));
+        }
+        best
     }
-    if at == slices {
-        return Some(W::zero());
-    }
-    let mut best = None;
-    for owner in OWNERS {
-        best = better_of(best, begun(parts, bests, at, left, owner));
-    }
-    best
 }
 
 // Fills each entry 24 j + 3 m + o, from the last slice to the first.
+// By number, since each entry reads those after it, so that the list cannot be lent out entry by entry.
 pub(crate) fn fill<W: Worth + Copy, P: Parts<W>>(parts: &P, bests: &mut [Option<W>])
     requires bounded { Bounded W.Worth.kind (P.Parts.road parts.now) }
     requires long { 24 * ((P.Parts.road parts.now).slices + 1) ≤ length bests.old }
@@ -97,7 +80,8 @@ pub(crate) fn fill<W: Worth + Copy, P: Parts<W>>(parts: &P, bests: &mut [Option<
             numbered: (i % 24 / 3) as u8,
             others: (i % 3) as u8,
         };
-        let best = entry(parts, bests, i / 24, left);
+        let entries = Entries { parts, bests };
+        let best = entries.best(Rest { at: i / 24, left });
         bests[i] = best;
     }
 }

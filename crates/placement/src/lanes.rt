@@ -7,6 +7,7 @@ ghost use Rattle.model.specs.declared.owners.Owner.{Owner as AnOwner};
 
 use model::owners::Owner;
 
+// A number with three bits, as a rule of the project asks: its ones are counted, and the entries are numbered by it.
 #[derive(Clone, Copy)]
 pub struct LaneSet {
     // 1, 2 and 4 for lanes 1, 2 and 3

@@ -3,5 +3,6 @@
 
 pub mod bests;
 pub mod choice;
+mod entries;
 pub mod lanes;
 pub mod parts;

@@ -1,8 +1,13 @@
 // Runs the placement on parts made by hand and on a level deck, and prints what wins.
 #![tactic(auto)]
 
+ghost use Rattle.std.specs.Prelude.{◌<◌, ◌≤◌, length};
+
+use crate::deck::placed_on_deck;
 use crate::hand_made::Row;
-use crate::trial::trial;
+use crate::trial::Trial;
+use crate::tried::Tried;
+use model::owners::Owner;
 use placement::lanes::LaneSet;
 use std::io;
 use worths::Kerbed;
@@ -11,6 +16,7 @@ mod deck;
 mod hand_made;
 mod source;
 mod trial;
+mod tried;
 
 const fn row(remaining: u64, lane1: u64, lane2: u64, lane3: u64, other: u64) -> Row {
     Row {
@@ -29,114 +35,81 @@ fn show_owners(rt: &HostRuntime, owners: &[u8]) -> io::Result<()> {
     println!(rt; "")
 }
 
-// By the effect alone. The owners past the rows stay 9.
-fn figure(rt: &HostRuntime, title: &str, rows: &[Row], lanes: LaneSet) -> io::Result<()> {
-    let mut bests: [Option<u64>; 504] = [None; 504];
+// The winner by one worth. The owners past the rows stay 9.
+fn try_by<W: Tried + Copy>(
+    rt: &HostRuntime,
+    trial: &Trial<'_>,
+    bests: &mut [Option<W>],
+) -> io::Result<()> {
     let mut owners = [9; 22];
-    match trial(rows, lanes, &mut bests, &mut owners) {
-        None => println!(rt; "{title}, figure: no room"),
-        Some(effect) => {
-            print!(rt; "{title}, figure: {effect} by")?;
+    let title = trial.title;
+    let name = W::NAME;
+    match trial.winner(bests, &mut owners) {
+        None => println!(rt; "{title}, {name}: no room"),
+        Some(worth) => {
+            print!(rt; "{title}, {name}: ")?;
+            worth.show(rt)?;
+            print!(rt; " by")?;
             show_owners(rt, &owners)
         }
     }
 }
 
-// By the effect and then the kerb count.
-fn drawing(rt: &HostRuntime, title: &str, rows: &[Row], lanes: LaneSet) -> io::Result<()> {
-    let mut bests: [Option<Kerbed>; 504] = [None; 504];
-    let mut owners = [9; 22];
-    match trial(rows, lanes, &mut bests, &mut owners) {
-        None => println!(rt; "{title}, drawing: no room"),
-        Some(Kerbed { effect, kerb }) => {
-            print!(rt; "{title}, drawing: {effect} and {kerb} by")?;
-            show_owners(rt, &owners)
-        }
+fn try_both(rt: &HostRuntime, trials: &[Trial<'_>]) -> io::Result<()> {
+    let mut figures: [Option<u64>; 504] = [None; 504];
+    let mut drawings: [Option<Kerbed>; 504] = [None; 504];
+    for trial in trials {
+        try_by(rt, trial, &mut figures)?;
+        try_by(rt, trial, &mut drawings)?;
     }
+    Ok(())
 }
 
-fn both(rt: &HostRuntime, title: &str, rows: &[Row], lanes: LaneSet) -> io::Result<()> {
-    figure(rt, title, rows, lanes)?;
-    drawing(rt, title, rows, lanes)
+// A set of lanes 1 to 3, and so many others.
+fn lanes(numbered: u8, others: u8) -> LaneSet
+    requires low { numbered < 8 }
+    requires few { others < 3 }
+{
+    LaneSet { numbered, others }
 }
 
-fn hand_made_parts(rt: &HostRuntime) -> io::Result<()> {
+fn equal_worths(rt: &HostRuntime) -> io::Result<()> {
     let crossed = [
         row(0, 5, 9, 0, 0),
         row(0, 0, 0, 0, 0),
         row(0, 10, 1, 0, 0),
         row(0, 0, 0, 0, 0),
     ];
-    both(
-        rt,
-        "lane 2 left of lane 1",
-        &crossed,
-        LaneSet {
-            numbered: 3,
-            others: 0,
-        },
-    )?;
-    both(
-        rt,
-        "one lane, all starts equal",
-        &[row(0, 7, 0, 0, 0); 5],
-        LaneSet {
-            numbered: 1,
-            others: 0,
-        },
-    )?;
-    both(
-        rt,
-        "two lanes, both orders equal",
-        &[row(0, 4, 4, 0, 0); 4],
-        LaneSet {
-            numbered: 3,
-            others: 0,
-        },
-    )?;
-    both(
-        rt,
-        "lane 3 and another, both orders equal",
-        &[row(0, 0, 0, 4, 4); 4],
-        LaneSet {
-            numbered: 4,
-            others: 1,
-        },
-    )?;
-    let open = [
+    let starts = [row(0, 7, 0, 0, 0); 5];
+    let orders = [row(0, 4, 4, 0, 0); 4];
+    let unnumbered = [row(0, 0, 0, 4, 4); 4];
+    let trials = [
+        Trial::new("lane 2 left of lane 1", &crossed, lanes(3, 0)),
+        Trial::new("one lane, all starts equal", &starts, lanes(1, 0)),
+        Trial::new("two lanes, both orders equal", &orders, lanes(3, 0)),
+        Trial::new(
+            "lane 3 and another, both orders equal",
+            &unnumbered,
+            lanes(4, 1),
+        ),
+    ];
+    try_both(rt, &trials)
+}
+
+fn remaining_slices(rt: &HostRuntime) -> io::Result<()> {
+    let rows = [
         row(8, 3, 0, 0, 0),
         row(1, 3, 0, 0, 0),
         row(1, 9, 0, 0, 0),
         row(8, 3, 0, 0, 0),
         row(8, 3, 0, 0, 0),
     ];
-    both(
-        rt,
-        "remaining slices worth more",
-        &open,
-        LaneSet {
-            numbered: 1,
-            others: 0,
-        },
-    )?;
-    both(
-        rt,
-        "no lanes",
-        &open,
-        LaneSet {
-            numbered: 0,
-            others: 0,
-        },
-    )?;
-    both(
-        rt,
-        "three lanes on five slices",
-        &open,
-        LaneSet {
-            numbered: 7,
-            others: 0,
-        },
-    )
+    let trials = [
+        Trial::new("remaining slices worth more", &rows, lanes(1, 0)),
+        Trial::new("no lanes", &rows, lanes(0, 0)),
+        Trial::new("three lanes on five slices", &rows, lanes(7, 0)),
+    ];
+    try_both(rt, &trials)
 }
 
 fn five_lanes(rt: &HostRuntime) -> io::Result<()> {
@@ -154,62 +127,49 @@ fn five_lanes(rt: &HostRuntime) -> io::Result<()> {
         row(5, 26, 19, 13, 12),
         row(4, 25, 18, 11, 5),
     ];
-    both(
-        rt,
-        "five lanes",
-        &rows,
-        LaneSet {
-            numbered: 7,
-            others: 2,
-        },
-    )?;
-    both(
-        rt,
-        "lanes 2 and 3 and another",
-        &rows,
-        LaneSet {
-            numbered: 6,
-            others: 1,
-        },
-    )
+    let trials = [
+        Trial::new("five lanes", &rows, lanes(7, 2)),
+        Trial::new("lanes 2 and 3 and another", &rows, lanes(6, 1)),
+    ];
+    try_both(rt, &trials)
 }
 
 // The first slice that an owner has.
-fn first_of(owners: &[u8], number: u8) -> Option<usize> {
-    for (i, owner) in owners.iter().enumerate() {
-        if *owner == number {
-            return Some(i);
-        }
-    }
-    None
+fn first_of(owners: &[u8], owner: Owner) -> Option<usize> {
+    owners.iter().position(|number| *number == u8::from(owner))
 }
 
-fn level_deck(rt: &HostRuntime, width: u32) -> io::Result<()> {
+fn try_deck<W: Tried + Copy>(
+    rt: &HostRuntime,
+    width: u32,
+    bests: &mut [Option<W>],
+) -> io::Result<()>
+    requires { 7224 ≤ length bests.old }
+{
     let mut owners = [9; 300];
-    if let Some(effect) = deck::figure(width, &mut owners) {
-        println!(rt;
-            "width {width}, figure: {effect} with lane 1 at {:?}, lane 2 at {:?}, lane 3 at {:?}",
-            first_of(&owners, 1),
-            first_of(&owners, 2),
-            first_of(&owners, 3)
-        )?;
-    }
-    if let Some(Kerbed { effect, kerb }) = deck::drawing(width, &mut owners) {
-        println!(rt;
-            "width {width}, drawing: {effect} and {kerb} with lane 1 at {:?}, lane 2 at {:?}, lane 3 at {:?}",
-            first_of(&owners, 1),
-            first_of(&owners, 2),
-            first_of(&owners, 3)
-        )?;
-    }
-    Ok(())
+    let name = W::NAME;
+    let Some(worth) = placed_on_deck::<W>(width, bests, &mut owners) else {
+        return Ok(());
+    };
+    print!(rt; "width {width}, {name}: ")?;
+    worth.show(rt)?;
+    println!(rt;
+        " with lane 1 at {:?}, lane 2 at {:?}, lane 3 at {:?}",
+        first_of(&owners, Owner::Lane1),
+        first_of(&owners, Owner::Lane2),
+        first_of(&owners, Owner::Lane3)
+    )
 }
 
 fn main(rt: HostRuntime) -> io::Result<()> {
-    hand_made_parts(&rt)?;
+    equal_worths(&rt)?;
+    remaining_slices(&rt)?;
     five_lanes(&rt)?;
+    let mut figures: [Option<u64>; 7224] = [None; 7224];
+    let mut drawings: [Option<Kerbed>; 7224] = [None; 7224];
     for width in [30, 53, 54, 59, 60, 89, 90, 120, 150] {
-        level_deck(&rt, width)?;
+        try_deck(&rt, width, &mut figures)?;
+        try_deck(&rt, width, &mut drawings)?;
     }
     Ok(())
 }

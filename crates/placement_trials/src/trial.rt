@@ -7,21 +7,37 @@ use worths::Worth;
 
 const LANE: usize = 2;
 
-// What the winner over at most 20 rows is worth, with the owners of its slices; nothing where the lanes do not fit or a list is too short.
-pub fn trial<W: Worth + Copy>(
-    rows: &[Row],
-    lanes: LaneSet,
-    bests: &mut [Option<W>],
-    owners: &mut [u8],
-) -> Option<W> {
-    let slices = rows.len();
-    if slices > 20
-        || slices > owners.len()
-        || 24 * (slices + 1) > bests.len()
-        || lanes.count() * LANE > slices
-    {
-        return None;
+// Rows with the lanes to place over them.
+#[derive(Clone, Copy)]
+pub(crate) struct Trial<'a> {
+    pub title: &'a str,
+    pub rows: &'a [Row],
+    pub lanes: LaneSet,
+}
+
+impl<'a> Trial<'a> {
+    pub(crate) fn new(title: &'a str, rows: &'a [Row], lanes: LaneSet) -> Trial<'a> {
+        Trial { title, rows, lanes }
     }
-    let parts = HandMade { lane: LANE, rows };
-    Some(place(&parts, bests, owners, lanes))
+
+    // What the winner over at most 20 rows is worth, with the owners of its slices; nothing where the lanes do not fit or a list is too short.
+    pub(crate) fn winner<W: Worth + Copy>(
+        &self,
+        bests: &mut [Option<W>],
+        owners: &mut [u8],
+    ) -> Option<W> {
+        let slices = self.rows.len();
+        if slices > 20
+            || slices > owners.len()
+            || 24 * (slices + 1) > bests.len()
+            || self.lanes.count() * LANE > slices
+        {
+            return None;
+        }
+        let parts = HandMade {
+            lane: LANE,
+            rows: self.rows,
+        };
+        Some(place(&parts, bests, owners, self.lanes))
+    }
 }

@@ -8,7 +8,7 @@ use Rattle.card.specs.declared.answers.Answer.TheVariants.{Refused, Done, Handed
 use Rattle.card.specs.declared.answers.Layout.{Layout}
 use Rattle.card.specs.declared.fault.JobFault.{JobFault}
 use Rattle.report.specs.Lines.{FigureCells}
-use Rattle.report.specs.Texts.{refusal_text}
+use Rattle.table.specs.Told.{refusal_text}
 use Rattle.rated.specs.Ratings.{RatedTable, RefusedTable}
 
 -- the line of a figure: its cells alone

@@ -45,23 +45,15 @@ fn rate_sealed(draft: Draft, rows: &[Row], answers: &mut [Answer; 2]) -> Result<
     ensures { SealedRated (seal_judged draft.layout.count rows.now draft.filled) result (Figures (rows_shape draft.layout.slices draft.layout.count draft.layout.paths draft.filled rows.now) answers.new) }
 {
     let mut surface = Measured::level();
-    match draft.seal(rows, &mut surface) {
-        Ok(()) => rate_deck(surface, answers),
-        Err(back) => {
-            drop(surface);
-            Err(JobFault::Surface(back.1))
-        }
-    }
+    draft.seal(rows, &mut surface).map_err(|back| back.1)?;
+    rate_deck(surface, answers)
 }
 
 // Rates the surface that a run's table gives, or refuses the table for its first fault.
 pub fn rate_table(input: &[u8], answers: &mut [Answer; 2]) -> Result<(), JobFault>
     ensures { MatchResult result (λ _. RatedTable input.now answers.new) (RefusedTable input.now) }
 {
-    let mut rows = [Row {
-        place: 0,
-        ordinates: [0; 8],
-    }; 64];
+    let mut rows = [Row::BLANK; 64];
     let draft = read_run(input, &mut rows)?;
     rate_sealed(draft, &rows, answers)
 }

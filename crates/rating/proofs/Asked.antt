@@ -23,6 +23,7 @@ use Rattle.card.specs.declared.fault.JobFault.{JobFault}
 use Rattle.card.specs.declared.fault.JobFault.TheVariants.{Kerbs, Short}
 use Rattle.statement.specs.Figures.{tandem_in, Figured, Lists, Listed}
 use Rattle.statement.specs.Runs.{Told, Taken, in_force}
+use Rattle.rating.specs.Asked.{Asked}
 use Rattle.rating.specs.Reach.{reached}
 
 pub fit_bounds : (n : ℕ) (k : Carriageway) → kerbs_fit n k ≡ true → (30 ≤ k.width) × (k.width ≤ 150) × (k.first + breadth k ≤ n)
@@ -97,22 +98,10 @@ module _ {W : Type 0} (K : Kind W) (made : ℕ → ℕ → W) (s : Shape) (c : C
 
 -- ---- what is told
 
--- a call that is refused for its cause
-pub told_refused : (s : Shape) (c : Card) (call : Call) (e : JobFault) → Some e ≡ cause c call → Told s c call (Refused e)
-told_refused s c call e judged = record { judged = judged; taken = λ h. absurd (no_cause (judged ∙ h)) }
-  where
-    no_cause : Some e ≡ None → ⊥
-    no_cause h = let z : ◌≡◌ {A = ℕ} 0 1 = cc in omega arith
-
 -- two lengths that the card judges alike
-pub told_figure_cut : (s : Shape) (c : Card) (k : LoadKind) (l m : Lengths) (a : Answer) → long_enough c.kerbs m ≡ long_enough c.kerbs l → Told s c (Figure k m) a → Told s c (Figure k l) a
-told_figure_cut s c k l m a e t =
-    let same : cause c (Figure k m) ≡ cause c (Figure k l) = ap (λ (b : Bool). unless b Short None) e in
-    record { judged = t.judged ∙ same; taken = λ h. t.taken (same ∙ h) }
-
-pub told_drawing_cut : (s : Shape) (c : Card) (k : LoadKind) (l m : Lengths) (a : Answer) → long_enough c.kerbs m ≡ long_enough c.kerbs l → Told s c (Drawing k m) a → Told s c (Drawing k l) a
-told_drawing_cut s c k l m a e t =
-    let same : cause c (Drawing k m) ≡ cause c (Drawing k l) = ap (λ (b : Bool). unless b Short None) e in
+pub asked_cut : {W : Type 0} (K : Kind W) (made : ℕ → ℕ → W) (s : Shape) (c : Card) (k : LoadKind) (l m : Lengths) (a : Answer) → long_enough c.kerbs m ≡ long_enough c.kerbs l → Asked K made s c k m a → Asked K made s c k l a
+asked_cut K made s c k l m a e t =
+    let same : unless (long_enough c.kerbs m) Short None ≡ unless (long_enough c.kerbs l) Short None = ap (λ (b : Bool). unless b Short None) e in
     record { judged = t.judged ∙ same; taken = λ h. t.taken (same ∙ h) }
 
 -- the answer that keeps copies of owners and tandems

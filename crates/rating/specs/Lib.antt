@@ -1,3 +1,4 @@
+pub mod Asked
 pub mod Made
 pub mod Plain
 pub mod Reach

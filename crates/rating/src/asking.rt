@@ -1,33 +1,41 @@
 // A figure or a drawing by the lengths of the lists to lend, and what is kept of it.
 ghost use Rattle.std.specs.Prelude.{◌≡◌, ◌-◌, ◌≤◌, true, ◌++◌, length, replicate};
 ghost use Rattle.card.specs.Bounds.{kerbs_fit};
-ghost use Rattle.card.specs.declared.calls.Call.TheVariants.{Figure, Drawing};
-ghost use Rattle.statement.specs.Runs.{Told};
 ghost use Rattle.figures.specs.Lent.{lengths as lengths_of};
+ghost use Rattle.rating.specs.Asked.{Asked};
 ghost use Rattle.rating.specs.Reach.{reached};
 
 use crate::job::Job;
 use card::answers::{Answer, Layout};
 use card::calls::Lengths;
+use figures::reported::Reported;
 use model::lanes::Carriageway;
 use model::tandems::Tandem;
 use model::weights::LoadKind;
 use surface::Surface;
-use worths::Kerbed;
 
 // The most slices of a carriageway, and the entries of `bests` that they need.
 const SLICES: usize = 300;
 
-const ENTRIES: usize = 7224;
+pub const ENTRIES: usize = 7224;
 
-// Lists that are long enough for any kerbs.
+// Lists that are long enough for any kerbs, of fixed size: a run cannot fail for want of memory.
 #[derive(Drop)]
 pub struct Desk {
     pub areas: [u64; SLICES],
     pub tandems: [Tandem; SLICES],
-    pub figures: [Option<u64>; ENTRIES],
-    pub drawings: [Option<Kerbed>; ENTRIES],
     pub owners: [u8; SLICES],
+}
+
+impl Desk {
+    // A desk with nothing on it.
+    pub fn clear() -> Desk {
+        Desk {
+            areas: [0; SLICES],
+            tandems: [Tandem::none(); SLICES],
+            owners: [0; SLICES],
+        }
+    }
 }
 
 // How much of lists of these lengths is lent: owners and tandems as far as the kerbs reach, so that they show nothing of an earlier call.
@@ -49,25 +57,23 @@ fn kept<T: Copy>(items: &[T], blank: T) -> [T; SLICES]
     ensures { result ≡ items.now ++ replicate (300 - length items.now) blank }
 {
     let mut all = [blank; SLICES];
-    for i in 0..items.len() {
-        all[i] = items[i];
-    }
+    all[..items.len()].copy_from_slice(items);
     all
 }
 
-// The answer to a figure over these lists.
-fn figure_over<S: Surface>(
+// The answer to a figure or a drawing over these lists.
+fn answer_over<S: Surface, W: Reported + Copy>(
     job: &Job<S>,
     kind: LoadKind,
     areas: &mut [u64],
     tandems: &mut [Tandem],
-    bests: &mut [Option<u64>],
+    bests: &mut [Option<W>],
     owners: &mut [u8],
 ) -> Answer
     requires { (length tandems.old ≤ 300) × (length owners.old ≤ 300) }
-    ensures { kerbs_fit (S.Surface.shape job.now.surface).slices job.now.card.kerbs ≡ true → Told (S.Surface.shape job.now.surface) job.now.card (Figure kind (lengths_of areas.old tandems.old bests.old owners.old)) result }
+    ensures { kerbs_fit (S.Surface.shape job.now.surface).slices job.now.card.kerbs ≡ true → Asked W.Worth.kind W.Worth.made (S.Surface.shape job.now.surface) job.now.card kind (lengths_of areas.old tandems.old bests.old owners.old) result }
 {
-    match job.figure(kind, areas, tandems, bests, owners) {
+    match job.rate::<W>(kind, areas, tandems, bests, owners) {
         Ok(rating) => {
             let layout = Layout {
                 owners: kept(owners, 0),
@@ -79,76 +85,24 @@ fn figure_over<S: Surface>(
     }
 }
 
-// The answer to a figure with lists of these lengths.
-pub fn ask_figure<S: Surface>(
+// The answer to a figure or a drawing with lists of these lengths.
+pub fn ask<S: Surface, W: Reported + Copy>(
     job: &Job<S>,
     kind: LoadKind,
     lengths: Lengths,
     desk: &mut Desk,
+    bests: &mut [Option<W>],
 ) -> Answer
-    ensures { kerbs_fit (S.Surface.shape job.now.surface).slices job.now.card.kerbs ≡ true → Told (S.Surface.shape job.now.surface) job.now.card (Figure kind lengths) result }
+    requires { 7224 ≤ length bests.old }
+    ensures { kerbs_fit (S.Surface.shape job.now.surface).slices job.now.card.kerbs ≡ true → Asked W.Worth.kind W.Worth.made (S.Surface.shape job.now.surface) job.now.card kind lengths result }
 {
-    let Lengths {
-        areas,
-        tandems,
-        bests,
-        owners,
-    } = reach(job.card.kerbs, lengths);
-    figure_over(
+    let lent = reach(job.card.kerbs, lengths);
+    answer_over(
         job,
         kind,
-        &mut desk.areas[0..areas],
-        &mut desk.tandems[0..tandems],
-        &mut desk.figures[0..bests],
-        &mut desk.owners[0..owners],
-    )
-}
-
-// The answer to a drawing over these lists.
-fn drawing_over<S: Surface>(
-    job: &Job<S>,
-    kind: LoadKind,
-    areas: &mut [u64],
-    tandems: &mut [Tandem],
-    bests: &mut [Option<Kerbed>],
-    owners: &mut [u8],
-) -> Answer
-    requires { (length tandems.old ≤ 300) × (length owners.old ≤ 300) }
-    ensures { kerbs_fit (S.Surface.shape job.now.surface).slices job.now.card.kerbs ≡ true → Told (S.Surface.shape job.now.surface) job.now.card (Drawing kind (lengths_of areas.old tandems.old bests.old owners.old)) result }
-{
-    match job.drawing(kind, areas, tandems, bests, owners) {
-        Ok(rating) => {
-            let layout = Layout {
-                owners: kept(owners, 0),
-                tandems: kept(tandems, Tandem::none()),
-            };
-            Answer::Rated { rating, layout }
-        }
-        Err(fault) => Answer::Refused(fault),
-    }
-}
-
-// The answer to a drawing with lists of these lengths.
-pub fn ask_drawing<S: Surface>(
-    job: &Job<S>,
-    kind: LoadKind,
-    lengths: Lengths,
-    desk: &mut Desk,
-) -> Answer
-    ensures { kerbs_fit (S.Surface.shape job.now.surface).slices job.now.card.kerbs ≡ true → Told (S.Surface.shape job.now.surface) job.now.card (Drawing kind lengths) result }
-{
-    let Lengths {
-        areas,
-        tandems,
-        bests,
-        owners,
-    } = reach(job.card.kerbs, lengths);
-    drawing_over(
-        job,
-        kind,
-        &mut desk.areas[0..areas],
-        &mut desk.tandems[0..tandems],
-        &mut desk.drawings[0..bests],
-        &mut desk.owners[0..owners],
+        &mut desk.areas[0..lent.areas],
+        &mut desk.tandems[0..lent.tandems],
+        &mut bests[0..lent.bests],
+        &mut desk.owners[0..lent.owners],
     )
 }

@@ -6,15 +6,33 @@ ghost use Rattle.statement.specs.Runs.{Told, Replayed, duty_of, duty_told, fault
 ghost use Rattle.rating.specs.Made.{fault_beside};
 ghost use Rattle.rating.specs.Plain.{plain_answer};
 
-use crate::asking::{Desk, ask_drawing, ask_figure};
+use crate::asking::{Desk, ENTRIES, ask};
 use crate::duty::SignDuty;
 use crate::job::Job;
 use card::answers::Answer;
 use card::calls::Call;
 use card::fault::JobFault;
 use model::lanes::Carriageway;
-use model::tandems::Tandem;
 use surface::Surface;
+use worths::Kerbed;
+
+// The lists that a run lends, with entries for figures and for drawings.
+#[derive(Drop)]
+struct Lists {
+    desk: Desk,
+    figures: [Option<u64>; ENTRIES],
+    drawings: [Option<Kerbed>; ENTRIES],
+}
+
+impl Lists {
+    fn clear() -> Lists {
+        Lists {
+            desk: Desk::clear(),
+            figures: [None; ENTRIES],
+            drawings: [None; ENTRIES],
+        }
+    }
+}
 
 fn set_answer(r: Result<(), JobFault>) -> Answer
     ensures { result ≡ plain_answer (fault_in r) }
@@ -54,8 +72,8 @@ fn handed(r: Result<SignDuty, JobFault>) -> Answer
     }
 }
 
-// Makes one call through its method.
-fn make<S: Surface>(job: &mut Job<S>, call: Call, desk: &mut Desk) -> Answer
+// Makes one call through its method. A call is data, which a script writes and the card judges, so it is matched here.
+fn make<S: Surface>(job: &mut Job<S>, call: Call, lists: &mut Lists) -> Answer
     ensures told { kerbs_fit (S.Surface.shape job.old.surface).slices job.old.card.kerbs ≡ true → Told (S.Surface.shape job.old.surface) job.old.card call result }
     ensures steps { job.new.card ≡ step job.old.card call }
     ensures surface { job.new.surface ≡ job.old.surface }
@@ -66,8 +84,20 @@ fn make<S: Surface>(job: &mut Job<S>, call: Call, desk: &mut Desk) -> Answer
         Call::Reduce(factors) => handed(job.reduce(factors)),
         Call::Posted { number, serial } => spent(job.posted(SignDuty { number, serial })),
         Call::Withdraw { number, serial } => spent(job.withdraw(SignDuty { number, serial })),
-        Call::Figure { kind, lengths } => ask_figure(job, kind, lengths, desk),
-        Call::Drawing { kind, lengths } => ask_drawing(job, kind, lengths, desk),
+        Call::Figure { kind, lengths } => ask(
+            job,
+            kind,
+            lengths,
+            &mut lists.desk,
+            &mut lists.figures,
+        ),
+        Call::Drawing { kind, lengths } => ask(
+            job,
+            kind,
+            lengths,
+            &mut lists.desk,
+            &mut lists.drawings,
+        ),
     }
 }
 
@@ -84,17 +114,6 @@ fn open_duty<S: Surface>(job: &Job<S>) -> Option<SignDuty>
     })
 }
 
-// A desk with nothing on it.
-fn clear_desk() -> Desk {
-    Desk {
-        areas: [0; 300],
-        tandems: [Tandem::none(); 300],
-        figures: [None; 7224],
-        drawings: [None; 7224],
-        owners: [0; 300],
-    }
-}
-
 // Opens a job over the surface and makes every call of the list, with an answer to each; what is handed out at the end is the duty that is still open.
 pub fn replay<S: Surface + Drop>(
     surface: S,
@@ -109,9 +128,9 @@ pub fn replay<S: Surface + Drop>(
         return Err(JobFault::Short);
     }
     let mut job = Job::open(number, surface, kerbs)?;
-    let mut desk = clear_desk();
-    for i in 0..calls.len() {
-        answers[i] = make(&mut job, calls[i], &mut desk);
+    let mut lists = Lists::clear();
+    for (i, call) in calls.iter().enumerate() {
+        answers[i] = make(&mut job, *call, &mut lists);
     }
     Ok(open_duty(&job))
 }

@@ -17,6 +17,7 @@ use surface::Surface;
 // The most duties that a job hands out.
 const MOST_DUTIES: u32 = 65_535;
 
+// Each call says that the surface stays as it was: that is about the job before and after, which no field can hold.
 impl<S: Surface> Job<S> {
     // Opens a job of this number over a surface, between these kerbs and with every factor 1.00.
     pub fn open(number: u32, surface: S, kerbs: Carriageway) -> Result<Job<S>, JobFault>
@@ -29,22 +30,12 @@ impl<S: Surface> Job<S> {
         if !kerbs_fit(slices, kerbs) {
             return Err(JobFault::Kerbs);
         }
-        let factors = Factors {
-            tandem1: 100,
-            tandem2: 100,
-            tandem3: 100,
-            uniform1: 100,
-            uniform2: 100,
-            uniform3: 100,
-            others: 100,
-            remaining: 100,
-        };
         let card = Card {
             number,
             slices,
             kerbs,
-            factors,
-            earlier: factors,
+            factors: Factors::ONES,
+            earlier: Factors::ONES,
             serial: 0,
             count: 0,
         };
@@ -131,15 +122,8 @@ impl<S: Surface> Job<S> {
         ensures back { IfErr result (λ e. e.0 ≡ duty) }
         ensures surface { self.new.surface ≡ self.old.surface }
     {
-        if !self.is_open(duty.number, duty.serial) {
-            return Err((duty, JobFault::NotOpen));
-        }
-        let SignDuty {
-            number: _,
-            serial: _,
-        } = duty;
+        self.posted(duty)?;
         self.card.factors = self.card.earlier;
-        self.card.serial = 0;
         Ok(())
     }
 }

@@ -1,7 +1,7 @@
 -- A header, from its fields to the draft that it begins or the fault that it is refused for.
-use Rattle.std.proofs.Common.{◌≡◌, ℕ, zero, suc, ◌+◌, ◌-◌, ◌<◌, ◌≤◌, Bool, true, false, ◌||◌, ltb, List, [], ◌∷◌, length, get_or, take, drop, ℤ, pos, ◌+ℤ◌, nat_abs, Ok, Err, Result, sym, refl, ap, ◌∙◌, subst, ⊎_elim, arith, MatchResult}
+use Rattle.std.proofs.Common.{◌≡◌, ℕ, zero, suc, ◌+◌, ◌-◌, ◌<◌, ◌≤◌, Bool, true, false, ◌||◌, ltb, List, [], ◌∷◌, length, get_or, drop, ℤ, pos, nat_abs, Ok, Err, Result, sym, refl, ap, ◌∙◌, subst, ⊎_elim, arith, MatchResult}
 use lib.Signed.{lt_z}
-use Rattle.std.proofs.lemmas.List.{ext_get_or, get_or-take, length-take-le, length-append}
+use Rattle.std.proofs.lemmas.List.{length-append}
 use Rattle.std.proofs.lemmas.Bool.{cases_lt, cond-true, lt-ltb}
 use Rattle.measured.specs.Judged.{Begun, header_judged, path_judged}
 use Rattle.measured.specs.declared.measured.Draft.{Draft}
@@ -17,10 +17,10 @@ use Rattle.table.specs.declared.fault.TextFault.TheVariants.{Malformed}
 use Rattle.table.specs.declared.field.FieldEnd.{FieldEnd}
 use Rattle.table.proofs.Chains.{line_some}
 use Rattle.table.proofs.Numerals.{numeral_lt}
-use Rattle.readings.specs.Numbers.{Written, Taken, Missed}
-use Rattle.readings.specs.Runs.{SaysMm, ends, slices_of, Headed, Opened, HeaderRefused}
+use Rattle.records.specs.Numbers.{Written, Missed}
+use Rattle.records.proofs.Progress.{first_read}
+use Rattle.readings.specs.Runs.{SaysMm, slices_of, Headed, Opened, HeaderRefused}
 use Rattle.readings.specs.Runs as runs
-use Rattle.readings.proofs.Progress.{first_read, written_length}
 
 -- ---- numbers
 
@@ -29,37 +29,12 @@ writes_small : {bs : List ℕ} {v : ℤ} → Writes bs v → nat_abs v < 1000000
 writes_small (unsigned n d e) = omega (arith, numeral_lt d, ap nat_abs e)
 writes_small (minus ds n b d e) = omega (arith, numeral_lt d, ap nat_abs e, abs_neg (pos n))
 
-written_small : (cs : List Cell) (vs : List ℤ) → Written cs vs → (k : ℕ) → nat_abs (get_or vs k (pos 0)) < 10000000
+pub written_small : (cs : List Cell) (vs : List ℤ) → Written Writes cs vs → (k : ℕ) → nat_abs (get_or vs k (pos 0)) < 10000000
 written_small [] [] w k = omega arith
 written_small [] (v ∷ vs) w k = absurd w
 written_small (c ∷ cs) [] w k = omega arith
 written_small (c ∷ cs) (v ∷ vs) w zero = writes_small w.0
 written_small (c ∷ cs) (v ∷ vs) w (suc k) = written_small cs vs w.1 k
-
-pub taken_length : (cs : List Cell) (into : List ℤ) (t : Taken cs into) → length t.numbers ≡ length cs
-taken_length cs into t = written_length cs t.numbers t.written
-
-pub taken_small : (cs : List Cell) (into : List ℤ) → Taken cs into → (k : ℕ) → k < length cs → k < 9 → nat_abs (get_or into k (pos 0)) < 10000000
-taken_small cs into t k h room =
-    let n = taken_length cs into t in
-    let e = t.held k (omega arith) room in
-    omega (arith, ap nat_abs e, written_small cs t.numbers t.written k)
-
--- first + last + 1
-pub taken_slices : (cs : List Cell) (into : List ℤ) (n : ℕ) (t : Taken cs into) → length cs ≡ n → n ≤ 9 → 0 < n → ends into n ≡ slices_of t.numbers
-taken_slices cs into n t e few some =
-    let long = taken_length cs into t in
-    let first = t.held 0 (omega arith) (omega arith) in
-    let last = t.held (n - 1) (omega arith) (omega arith) in
-    let same : n - 1 ≡ length t.numbers - 1 = omega arith in
-    ap (λ (z : ℤ). z +ℤ get_or into (n - 1) (pos 0) +ℤ pos 1) first ∙ ap (λ (z : ℤ). get_or t.numbers 0 (pos 0) +ℤ z +ℤ pos 1) (last ∙ ap (λ (k : ℕ). get_or t.numbers k (pos 0)) same)
-
--- as many numbers as fields, if all are held
-pub taken_all : (cs : List Cell) (into : List ℤ) (n : ℕ) (t : Taken cs into) → length cs ≡ n → n ≤ 9 → length into ≡ 9 → take n into ≡ t.numbers
-taken_all cs into n t e few nine =
-    let long = taken_length cs into t in
-    let short = length-take-le n into (omega arith) in
-    ext_get_or (pos 0) (take n into) t.numbers (omega arith) (λ i h. get_or-take n into i (pos 0) (omega arith) ∙ t.held i (omega arith) (omega arith))
 
 -- ---- fields
 
@@ -119,28 +94,25 @@ module _ {cs : List Cell} {c : Cell} {input ys : List ℕ} {next : ℕ} (s : Spl
   pub refused_word : (SaysMm c → ⊥) → HeaderRefused cs (Text (Malformed 1 1))
   refused_word h = whole _ (runs.word c s.others h)
 
-  pub refused_number : (e : TextFault) → SaysMm c → Missed s.others 1 2 e → HeaderRefused cs (Text e)
+  pub refused_number : (e : TextFault) → SaysMm c → Missed Writes s.others 1 2 e → HeaderRefused cs (Text e)
   refused_number e h m =
       let swap : 2 + m.index ≡ m.index + 2 = omega arith in
       let is : e ≡ Malformed 1 (m.index + 2) = m.place ∙ ap (Malformed 1) swap in
       subst (λ (t : TextFault). HeaderRefused cs (Text t)) (sym is) (whole _ (runs.number c s.others m.index h m.unwritten))
 
-  pub refused_paths : (f : SurfaceFault) (ps : List ℤ) → SaysMm c → Written s.others ps → header_judged (slices_of ps) ps ≡ Err f → HeaderRefused cs f
+  pub refused_paths : (f : SurfaceFault) (ps : List ℤ) → SaysMm c → Written Writes s.others ps → header_judged (slices_of ps) ps ≡ Err f → HeaderRefused cs f
   refused_paths f ps h w e = whole f (runs.paths c s.others ps f h w e)
 
-  pub opened : (r : Result Draft SurfaceFault) (n : ℤ) (qs ps : List ℤ)
-      → Granted (header_judged n qs) r (λ d. Begun n qs d.layout.slices d.layout.count d.layout.paths d.filled)
-      → SaysMm c → Written s.others ps → n ≡ slices_of ps → qs ≡ ps
+  pub opened : (r : Result Draft SurfaceFault) (ps : List ℤ)
+      → Granted (header_judged (slices_of ps) ps) r (λ d. Begun (slices_of ps) ps d.layout.slices d.layout.count d.layout.paths d.filled)
+      → SaysMm c → Written Writes s.others ps
       → MatchResult r (λ d. Opened cs d.layout.slices d.layout.count d.layout.paths d.filled) (λ f. HeaderRefused cs f)
-  opened (Ok d) n qs ps g h w en eq =
-      let e : header_judged n qs ≡ header_judged (slices_of ps) ps = ap (λ (m : ℤ). header_judged m qs) en ∙ ap (header_judged (slices_of ps)) eq in
-      let b = subst (λ (m : ℤ). Begun m qs d.layout.slices d.layout.count d.layout.paths d.filled) en g.1 in
-      record {
-        numbers = ps;
-        headed = record { word = c; others = s.others; splits = s.splits; says = h; paths = w; lawful = sym e ∙ g.0 };
-        begun = subst (λ (m : List ℤ). Begun (slices_of ps) m d.layout.slices d.layout.count d.layout.paths d.filled) eq b;
-      }
-  opened (Err f) n qs ps g h w en eq = refused_paths f ps h w (sym (ap (λ (m : ℤ). header_judged m qs) en ∙ ap (header_judged (slices_of ps)) eq) ∙ g)
+  opened (Ok d) ps g h w = record {
+    numbers = ps;
+    headed = record { word = c; others = s.others; splits = s.splits; says = h; paths = w; lawful = g.0 };
+    begun = g.1;
+  }
+  opened (Err f) ps g h w = refused_paths f ps h w g
 
 -- a lawful header has at most eight paths
 pub header_few : (ps : List ℤ) → header_judged (slices_of ps) ps ≡ Ok tt → length ps ≤ 8

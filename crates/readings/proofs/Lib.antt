@@ -1,4 +1,3 @@
 pub mod Headers
-pub mod Progress
 pub mod Stations
 pub mod Underway

@@ -1,6 +1,6 @@
 -- A row, from its fields to the station that is taken or the fault that it is refused for.
-use Rattle.std.proofs.Common.{◌≡◌, ℕ, suc, ◌+◌, ◌-◌, ◌<◌, ◌≤◌, List, [], ◌∷◌, length, get_or, take, drop, set, ℤ, pos, Ok, Err, sym, ap, ◌∙◌, subst, arith}
-use Rattle.std.proofs.lemmas.List.{length-take, length-drop}
+use Rattle.std.proofs.Common.{◌≡◌, ℕ, ◌+◌, ◌<◌, ◌≤◌, List, [], ◌∷◌, length, get_or, drop, set, ℤ, pos, Ok, Err, sym, ap, ◌∙◌, subst, arith}
+use Rattle.std.proofs.lemmas.List.{length-drop}
 use Rattle.measured.specs.Judged.{row_of, station_judged}
 use Rattle.measured.specs.declared.row.Row.{Row}
 use Rattle.surface.specs.declared.fault.SurfaceFault.{SurfaceFault}
@@ -13,10 +13,11 @@ use Rattle.table.specs.declared.fault.TextFault.{TextFault}
 use Rattle.table.specs.declared.fault.TextFault.TheVariants.{Malformed, TooLong}
 use Rattle.table.specs.declared.line.LineEnd.{LineEnd}
 use Rattle.table.proofs.SecondPass.{read_advances}
-use Rattle.readings.specs.Numbers.{Written, Taken, Missed}
+use Rattle.table.specs.Numbers.{Writes}
+use Rattle.records.specs.Numbers.{Written, Missed}
+use Rattle.records.proofs.Progress.{written_length}
 use Rattle.readings.specs.Runs.{RowStops, RowTaken}
 use Rattle.readings.specs.Runs as runs
-use Rattle.readings.proofs.Headers.{taken_all}
 
 -- where a record is left, the next begins
 pub passes : {input : List ℕ} {e n : ℕ} → Leaves input e n → Passes (drop e input) (drop n input)
@@ -24,13 +25,9 @@ passes {input} (lines.at_end d is) = at_end d (ap (λ (k : ℕ). drop k input) i
 passes (lines.at_line d is) = at_line d
 
 -- the numbers of a row: its place, then its ordinates
-pub taken_row : (cs : List Cell) (into : List ℤ) (n : ℕ) (t : Taken cs into) → length cs ≡ n + 1 → n + 1 ≤ 9 → length into ≡ 9
-    → Written cs (get_or into 0 (pos 0) ∷ take (n + 1 - 1) (drop 1 into))
-taken_row cs [] n t e few nine = absurd (omega arith)
-taken_row cs (v ∷ vs) n t e few nine =
-    let all = taken_all cs (v ∷ vs) (suc n) t (omega arith) (omega arith) nine in
-    let less : take (n + 1 - 1) vs ≡ take n vs = ap (λ (k : ℕ). take k vs) (omega arith) in
-    subst (λ (l : List ℤ). Written cs (v ∷ l)) (sym less) (subst (Written cs) (sym all) t.written)
+row_written : (cs : List Cell) (into : List ℤ) → 0 < length cs → Written Writes cs into → Written Writes cs (get_or into 0 (pos 0) ∷ drop 1 into)
+row_written cs [] some w = let n = written_length Writes cs [] w in absurd (omega arith)
+row_written cs (v ∷ vs) some w = w
 
 module _ (m k rec : ℕ) (rows : List Row) (input : List ℕ) (at : ℕ) (place : rec ≡ k + 2) where
   -- said at the record's place
@@ -49,29 +46,32 @@ module _ (m k rec : ℕ) (rows : List Row) (input : List ℕ) (at : ℕ) (place 
     pub stops_fields : (e.fields ≡ m + 1 → ⊥) → RowStops m k rows (drop at input) (Text (Malformed rec 0))
     stops_fields h = here 0 (said _ (runs.fields (λ is. h (l.count ∙ is))))
 
-    pub stops_number : (t : TextFault) → length l.cells ≡ m + 1 → Missed l.cells rec 1 t → RowStops m k rows (drop at input) (Text t)
+    pub stops_number : (t : TextFault) → length l.cells ≡ m + 1 → Missed Writes l.cells rec 1 t → RowStops m k rows (drop at input) (Text t)
     stops_number t n s =
         let swap : 1 + s.index ≡ s.index + 1 = omega arith in
         let is : t ≡ Malformed rec (s.index + 1) = s.place ∙ ap (Malformed rec) swap in
         subst (λ (u : TextFault). RowStops m k rows (drop at input) (Text u)) (sym is) (here (s.index + 1) (said _ (runs.number s.index n s.unwritten)))
 
-    module _ (into : List ℤ) (t : Taken l.cells into) (n : length l.cells ≡ m + 1) (few : m + 1 ≤ 9) (nine : length into ≡ 9) where
-      ordinates_count : length (take (m + 1 - 1) (drop 1 into)) ≡ m
-      ordinates_count = simp (length-take, length-drop) (omega arith)
+    module _ (into : List ℤ) (w : Written Writes l.cells into) (n : length l.cells ≡ m + 1) where
+      ordinates_count : length (drop 1 into) ≡ m
+      ordinates_count = let long = written_length Writes l.cells into w in simp length-drop (omega arith)
 
-      pub stops_station : (f : SurfaceFault) → station_judged m k rows (get_or into 0 (pos 0)) (take (m + 1 - 1) (drop 1 into)) ≡ Err f → RowStops m k rows (drop at input) f
-      stops_station f j = said f (runs.station _ _ f ordinates_count (taken_row l.cells into m t n few nine) j)
+      numbers : Written Writes l.cells (get_or into 0 (pos 0) ∷ drop 1 into)
+      numbers = row_written l.cells into (omega arith) w
 
-      pub row_taken : (new : List Row) → at < length input → station_judged m k rows (get_or into 0 (pos 0)) (take (m + 1 - 1) (drop 1 into)) ≡ Ok tt
-          → new ≡ set rows k (row_of m (get_or into 0 (pos 0)) (take (m + 1 - 1) (drop 1 into))) → RowTaken m k rows input at e.next new
+      pub stops_station : (f : SurfaceFault) → station_judged m k rows (get_or into 0 (pos 0)) (drop 1 into) ≡ Err f → RowStops m k rows (drop at input) f
+      stops_station f j = said f (runs.station _ _ f ordinates_count numbers j)
+
+      pub row_taken : (new : List Row) → at < length input → station_judged m k rows (get_or into 0 (pos 0)) (drop 1 into) ≡ Ok tt
+          → new ≡ set rows k (row_of m (get_or into 0 (pos 0)) (drop 1 into)) → RowTaken m k rows input at e.next new
       row_taken new low j is = record {
         cells = l.cells;
         after = drop e.end input;
         place = get_or into 0 (pos 0);
-        ordinates = take (m + 1 - 1) (drop 1 into);
+        ordinates = drop 1 into;
         line = l.line;
         passes = passes l.leaves;
-        written = taken_row l.cells into m t n few nine;
+        written = numbers;
         count = ordinates_count;
         lawful = j;
         filled = is;

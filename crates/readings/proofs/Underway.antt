@@ -14,7 +14,8 @@ use Rattle.table.specs.declared.line.LineEnd.{LineEnd}
 use Rattle.readings.specs.Runs.{Opened, Reached, RowTaken, RowStops, FilledBy, HeaderRefused, RunTaken, RunRefused, slices_of}
 use Rattle.readings.specs.Runs as runs
 use Rattle.readings.proofs.Headers.{header_few}
-use Rattle.readings.proofs.Progress.{written_length}
+use Rattle.table.specs.Numbers.{Writes}
+use Rattle.records.proofs.Progress.{written_length}
 use Rattle.readings.proofs.Stations.{passes}
 
 pub record Underway (input : List ℕ) (old rows : List Row) (fields at rec : ℕ) (d : Draft) : Type 0 where
@@ -39,7 +40,7 @@ module _ (input : List ℕ) (old : List Row) (short : length input ≤ 65536) (s
   pub begins : (d : Draft) → Opened l.cells d.layout.slices d.layout.count d.layout.paths d.filled → Underway input old old e.fields e.next 2 d
   begins d o =
       let ps = o.numbers in
-      let n = written_length o.headed.others ps o.headed.paths in
+      let n = written_length Writes o.headed.others ps o.headed.paths in
       let m = ap length o.headed.splits in
       let none = o.begun.none_filled in
       record {

@@ -8,20 +8,17 @@ use Rattle.table.specs.Cells.{Cell, content}
 use Rattle.table.specs.Lines.{Line, Broken}
 use Rattle.table.specs.Tables.{Passes, ReadUpTo}
 use Rattle.table.specs.declared.fault.TextFault.TheVariants.{Malformed, TooLong}
-use Rattle.readings.specs.Numbers.{Written, Unwritten}
+use Rattle.table.specs.Numbers.{Writes}
+use Rattle.records.specs.Numbers.{Written, Unwritten}
 
 -- ---- the header: `mm`, then the slice of each path
 
 abbrev pub SaysMm : Cell → Type 0
 SaysMm c = content c ≡ 109 ∷ 109 ∷ []
 
--- the first of n numbers, the last and one more
-abbrev pub ends : List ℤ → ℕ → ℤ
-ends vs n = slice_index_or vs 0 (pos 0) +ℤ slice_index_or vs (n - 1) (pos 0) +ℤ pos 1
-
--- how many slices the deck of these paths has
+-- how many slices the deck of these paths has: the first, the last and one more
 abbrev pub slices_of : List ℤ → ℤ
-slices_of ps = ends ps (length ps)
+slices_of ps = slice_index_or ps 0 (pos 0) +ℤ slice_index_or ps (length ps - 1) (pos 0) +ℤ pos 1
 
 -- the header's fields say `mm` and the paths ps, and these are lawful
 pub record Headed (cs : List Cell) (ps : List ℤ) : Type 0 where
@@ -29,7 +26,7 @@ pub record Headed (cs : List Cell) (ps : List ℤ) : Type 0 where
   pub others : List Cell
   pub splits : cs ≡ word ∷ others
   pub says : SaysMm word
-  pub paths : Written others ps
+  pub paths : Written Writes others ps
   pub lawful : header_judged (slices_of ps) ps ≡ Ok tt
 
 -- the draft that a header begins
@@ -41,8 +38,8 @@ pub record Opened (cs : List Cell) (slices count : ℕ) (paths : List ℕ) (fill
 -- why a header is refused: its word, then the first path that is no number, then the counts and the paths
 pub data HeaderRefused : List Cell → SurfaceFault → Type 0 where
   word : (c : Cell) (cs : List Cell) → (SaysMm c → ⊥) → HeaderRefused (c ∷ cs) (Text (Malformed 1 1))
-  number : (c : Cell) (cs : List Cell) (i : ℕ) → SaysMm c → Unwritten cs i → HeaderRefused (c ∷ cs) (Text (Malformed 1 (i + 2)))
-  paths : (c : Cell) (cs : List Cell) (ps : List ℤ) (f : SurfaceFault) → SaysMm c → Written cs ps → header_judged (slices_of ps) ps ≡ Err f → HeaderRefused (c ∷ cs) f
+  number : (c : Cell) (cs : List Cell) (i : ℕ) → SaysMm c → Unwritten Writes cs i → HeaderRefused (c ∷ cs) (Text (Malformed 1 (i + 2)))
+  paths : (c : Cell) (cs : List Cell) (ps : List ℤ) (f : SurfaceFault) → SaysMm c → Written Writes cs ps → header_judged (slices_of ps) ps ≡ Err f → HeaderRefused (c ∷ cs) f
 
 -- ---- the rows: place, then one ordinate a path
 
@@ -50,14 +47,14 @@ pub data HeaderRefused : List Cell → SurfaceFault → Type 0 where
 pub data FilledBy (m : ℕ) (old : List Row) : List (List Cell) → List Row → Type 0 where
   none : FilledBy m old [] old
   next : {rs : List (List Cell)} {rows : List Row} (cs : List Cell) (z : ℤ) (vs : List ℤ)
-      → FilledBy m old rs rows → Written cs (z ∷ vs) → length vs ≡ m → station_judged m (length rs) rows z vs ≡ Ok tt
+      → FilledBy m old rs rows → Written Writes cs (z ∷ vs) → length vs ≡ m → station_judged m (length rs) rows z vs ≡ Ok tt
       → FilledBy m old (rs ++ (cs ∷ [])) (slice_set rows (length rs) (row_of m z vs))
 
 -- why a row is refused that comes after k stations: its number of fields, then the first that is no number, then the station
 pub data RowRefused (m k : ℕ) (rows : List Row) (cs : List Cell) : SurfaceFault → Type 0 where
   fields : (length cs ≢ m + 1) → RowRefused m k rows cs (Text (Malformed (k + 2) 0))
-  number : (i : ℕ) → length cs ≡ m + 1 → Unwritten cs i → RowRefused m k rows cs (Text (Malformed (k + 2) (i + 1)))
-  station : (z : ℤ) (vs : List ℤ) (f : SurfaceFault) → length vs ≡ m → Written cs (z ∷ vs) → station_judged m k rows z vs ≡ Err f → RowRefused m k rows cs f
+  number : (i : ℕ) → length cs ≡ m + 1 → Unwritten Writes cs i → RowRefused m k rows cs (Text (Malformed (k + 2) (i + 1)))
+  station : (z : ℤ) (vs : List ℤ) (f : SurfaceFault) → length vs ≡ m → Written Writes cs (z ∷ vs) → station_judged m k rows z vs ≡ Err f → RowRefused m k rows cs f
 
 -- ---- the table
 
@@ -79,7 +76,7 @@ pub record RowTaken (m k : ℕ) (old : List Row) (input : List ℕ) (at next : �
   pub ordinates : List ℤ
   pub line : Line cells (drop at input) after
   pub passes : Passes after (drop next input)
-  pub written : Written cells (place ∷ ordinates)
+  pub written : Written Writes cells (place ∷ ordinates)
   pub count : length ordinates ≡ m
   pub lawful : station_judged m k old place ordinates ≡ Ok tt
   pub filled : new ≡ slice_set old k (row_of m place ordinates)

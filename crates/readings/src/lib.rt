@@ -2,6 +2,5 @@
 #![tactic(auto)]
 
 mod header;
-mod numbers;
 mod rows;
 pub mod run;

@@ -1,19 +1,18 @@
 -- The numbers of a record's fields, one field at a time, of a kind V where `W bs v` says that the bytes bs write v.
-use Rattle.std.proofs.Common.{◌≡◌, ℕ, ◌+◌, ◌<◌, ◌≤◌, ◌≢◌, List, [], ◌∷◌, ◌++◌, length, get_or, take, drop, set, sym, refl, ap, ◌∙◌, subst, ⊎_elim, arith}
-use Rattle.std.proofs.lemmas.List.{take_more, drop_more, take_all, length-take-le, length_push, get_or_push, get_or_append_left, get_or-set_same, get_or-set_other, get_or-take, ext_get_or, length-drop}
-use Rattle.std.proofs.lemmas.Bool.{cases_lt}
+use Rattle.std.proofs.Common.{◌≡◌, ℕ, ◌+◌, ◌<◌, ◌≤◌, List, [], ◌∷◌, ◌++◌, length, get_or, take, drop, sym, refl, ap, ◌∙◌, subst, arith}
+use Rattle.std.proofs.lemmas.List.{take-append-le, take_more, drop_more, take_all, length-take, length-take-le, length_push, length-drop}
 use Rattle.table.specs.Cells.{Cell, plain, cell_of, content, MalformedAt}
 use Rattle.table.specs.Lines.{Line, FieldRead}
 use Rattle.table.specs.declared.field.FieldEnd.{FieldEnd}
 use Rattle.table.proofs.Chains.{line_stands}
 use Rattle.table.proofs.SecondPass.{pass_same, pass_more}
-use Rattle.records.specs.Numbers.{Written, Unwritten, Held, Taken}
+use Rattle.records.specs.Numbers.{Written, Unwritten, Taken}
 
--- i fields are read, and the record of those that are left begins at byte p
-pub record Progress {V : Type 0} (W : List ℕ → V → Type 0) (cs : List Cell) (ys : List ℕ) (input : List ℕ) (i p : ℕ) (into : List V) : Type 0 where
+-- i fields are read, the first of their numbers are held, and the record of those that are left begins at byte p
+pub record Progress {V : Type 0} (W : List ℕ → V → Type 0) (room : ℕ) (cs : List Cell) (ys : List ℕ) (input : List ℕ) (i p : ℕ) (into : List V) : Type 0 where
   pub numbers : List V
   pub written : Written W (take i cs) numbers
-  pub held : Held numbers into
+  pub held : into ≡ take room numbers
   pub line : i < length cs → Line (drop i cs) (drop p input) ys
 
 -- a field that is read where a record begins is its first, and the others follow it
@@ -35,13 +34,13 @@ module _ {V : Type 0} (W : List ℕ → V → Type 0) where
   written_push (d ∷ ds) [] c v w h = absurd w
   written_push (d ∷ ds) (u ∷ us) c v w h = (w.0, written_push ds us c v w.1 h)
 
-  pub progress_none : (cs : List Cell) (ys input : List ℕ) (p : ℕ) (into : List V) → Line cs (drop p input) ys → Progress W cs ys input 0 p into
-  progress_none cs ys input p into l = record { numbers = []; written = tt; held = λ d k h. absurd (omega arith); line = λ h. l }
+  pub progress_none : (room : ℕ) (cs : List Cell) (ys input : List ℕ) (p : ℕ) → Line cs (drop p input) ys → Progress W room cs ys input 0 p []
+  progress_none room cs ys input p l = record { numbers = []; written = tt; held = sym (take_all room [] (omega arith)); line = λ h. l }
 
-  pub progress_all : (cs : List Cell) (ys input : List ℕ) (i p : ℕ) (into : List V) → length cs ≤ i → Progress W cs ys input i p into → Taken W cs into
-  progress_all cs ys input i p into h g = record { numbers = g.numbers; written = subst (λ (l : List Cell). Written W l g.numbers) (take_all i cs h) g.written; held = g.held }
+  pub progress_all : (room : ℕ) (cs : List Cell) (ys input : List ℕ) (i p : ℕ) (into : List V) → length cs ≤ i → Progress W room cs ys input i p into → Taken W room cs into
+  progress_all room cs ys input i p into h g = record { numbers = g.numbers; written = subst (λ (l : List Cell). Written W l g.numbers) (take_all i cs h) g.written; held = g.held }
 
-  module _ (cs : List Cell) (ys input : List ℕ) (i p : ℕ) (into : List V) (g : Progress W cs ys input i p into) (h : i < length cs) where
+  module _ (room : ℕ) (cs : List Cell) (ys input : List ℕ) (i p : ℕ) (into : List V) (g : Progress W room cs ys input i p into) (h : i < length cs) where
     here : Line (get_or cs i (plain []) ∷ drop (i + 1) cs) (drop p input) ys
     here = subst (λ (l : List Cell). Line l (drop p input) ys) (drop_more cs i (plain []) h) (g.line h)
 
@@ -63,7 +62,7 @@ module _ {V : Type 0} (W : List ℕ → V → Type 0) where
 
     -- it writes a number, which is held if there is room
     pub progress_more : {r f : ℕ} {e : FieldEnd} (v : V) (next : ℕ) (held : List V) → FieldRead input p r f e → W (content (cell_of e.field.text)) v
-        → (e.next < length input → next ≡ e.next + 1) → Held (g.numbers ++ (v ∷ [])) held → Progress W cs ys input (i + 1) next held
+        → (e.next < length input → next ≡ e.next + 1) → held ≡ take room (g.numbers ++ (v ∷ [])) → Progress W room cs ys input (i + 1) next held
     progress_more {e = e} v next held k w step kept = record {
       numbers = g.numbers ++ (v ∷ []);
       written = subst (λ (l : List Cell). Written W l (g.numbers ++ (v ∷ []))) (sym (take_more cs i (plain []) h)) (written_push (take i cs) g.numbers (get_or cs i (plain [])) v g.written (subst (λ (c : Cell). W (content c) v) (progress_field k) w));
@@ -76,38 +75,24 @@ module _ {V : Type 0} (W : List ℕ → V → Type 0) where
     count : length g.numbers ≡ i
     count = written_length (take i cs) g.numbers g.written ∙ length-take-le i cs (omega arith)
 
-    -- the number is put in its place
-    pub held_set : (v : V) → length into ≡ 9 → i < 9 → Held (g.numbers ++ (v ∷ [])) (set into i v)
-    held_set v nine room d k low few = ⊎_elim (before d k few) (at d k low) (cases_lt k i)
-      where
-        before : (d : V) (k : ℕ) → k < 9 → k < i → get_or (set into i v) k d ≡ get_or (g.numbers ++ (v ∷ [])) k d
-        before d k few lt =
-            let off : k ≢ i = λ e. omega arith in
-            let n = count in
-            let lt' : k < length g.numbers = omega arith in
-            get_or-set_other into i k v d off ∙ g.held d k lt' few ∙ sym (get_or_append_left g.numbers (v ∷ []) d k lt')
-
-        at : (d : V) (k : ℕ) → k < length (g.numbers ++ (v ∷ [])) → i ≤ k → get_or (set into i v) k d ≡ get_or (g.numbers ++ (v ∷ [])) k d
-        at d k low ge =
-            let n = count in
-            let long = length_push g.numbers v in
-            let same : k ≡ i = omega arith in
-            ap (λ (m : ℕ). get_or (set into i v) m d) same ∙ get_or-set_same into i v d (omega arith) ∙ sym (ap (λ (m : ℕ). get_or (g.numbers ++ (v ∷ [])) m d) same ∙ get_or_push g.numbers v d i n)
+    -- the number is the next that is held
+    pub held_more : (v : V) → length into < room → into ++ (v ∷ []) ≡ take room (g.numbers ++ (v ∷ []))
+    held_more v free =
+        let short = length-take room g.numbers in
+        let size = ap length g.held in
+        let long = length_push g.numbers v in
+        ap (λ (l : List V). l ++ (v ∷ [])) (g.held ∙ take_all room g.numbers (omega arith)) ∙ sym (take_all room (g.numbers ++ (v ∷ [])) (omega arith))
 
     -- there is no room for the number
-    pub held_past : (v : V) → 9 ≤ i → Held (g.numbers ++ (v ∷ [])) into
-    held_past v full d k low few =
-        let n = count in
-        let lt : k < length g.numbers = omega arith in
-        g.held d k lt few ∙ sym (get_or_append_left g.numbers (v ∷ []) d k lt)
+    pub held_past : (v : V) → length into ≡ room → into ≡ take room (g.numbers ++ (v ∷ []))
+    held_past v full =
+        let short = length-take room g.numbers in
+        let size = ap length g.held in
+        g.held ∙ sym (take-append-le room g.numbers (v ∷ []) (omega arith))
 
-module _ {V : Type 0} {W : List ℕ → V → Type 0} (cs : List Cell) (into : List V) where
-  pub taken_length : (t : Taken W cs into) → length t.numbers ≡ length cs
-  taken_length t = written_length W cs t.numbers t.written
-
-  -- as many numbers as fields, if all are held
-  pub taken_all : (d : V) (n : ℕ) (t : Taken W cs into) → length cs ≡ n → n ≤ 9 → length into ≡ 9 → take n into ≡ t.numbers
-  taken_all d n t e few nine =
-      let long = taken_length t in
-      let short = length-take-le n into (omega arith) in
-      ext_get_or d (take n into) t.numbers (omega arith) (λ i h. get_or-take n into i d (omega arith) ∙ t.held d i (omega arith) (omega arith))
+module _ {V : Type 0} {W : List ℕ → V → Type 0} {room : ℕ} {cs : List Cell} {into : List V} where
+  -- all numbers are held, if there is room for them
+  pub taken_whole : Taken W room cs into → length cs ≤ room → Written W cs into
+  taken_whole t few =
+      let long = written_length W cs t.numbers t.written in
+      subst (Written W cs) (sym (t.held ∙ take_all room t.numbers (omega arith))) t.written

@@ -18,15 +18,11 @@ pub record Unwritten {V : Type 0} (W : List ℕ → V → Type 0) (cs : List Cel
   pub within : i < length cs
   pub none : (v : V) → W (content (slice_index_or cs i (plain []))) v → ⊥
 
--- the first nine of the numbers stand in the places of `into`; d stands for what is past the end of a list
-abbrev pub Held : {V : Type 0} → List V → List V → Type 0
-Held {V} vs into = (d : V) (k : ℕ) → k < length vs → k < 9 → slice_index_or into k d ≡ slice_index_or vs k d
-
--- the fields write numbers, of which the first nine are held
-pub record Taken {V : Type 0} (W : List ℕ → V → Type 0) (cs : List Cell) (into : List V) : Type 0 where
+-- the fields write numbers, of which the first are held, as many as there is room for
+pub record Taken {V : Type 0} (W : List ℕ → V → Type 0) (room : ℕ) (cs : List Cell) (into : List V) : Type 0 where
   pub numbers : List V
   pub written : Written W cs numbers
-  pub held : Held numbers into
+  pub held : into ≡ take room numbers
 
 -- the first field that writes no number is told by its place, where the first of the fields has the place f of the record r
 pub record Missed {V : Type 0} (W : List ℕ → V → Type 0) (cs : List Cell) (r f : ℕ) (e : TextFault) : Type 0 where

@@ -1,26 +1,23 @@
 -- The lines of a run, from what is left of both lists.
-use Rattle.std.proofs.Common.{ℕ, ◌+◌, ◌<◌, ◌≤◌, min, ◌⊎◌, List, [], ◌++◌, length, get_or, drop, inl, inr, append_assoc, arith}
-use Rattle.std.proofs.lemmas.List.{append-nil, drop_all, drop_more}
-use Rattle.std.proofs.lemmas.Bool.{cases_lt}
+use Rattle.std.proofs.Common.{◌≡◌, ℕ, List, [], ◌∷◌, ◌++◌, length, append_assoc, arith}
+use Rattle.std.proofs.lemmas.List.{append-nil}
 use Rattle.card.specs.declared.answers.Answer.{Answer}
 use Rattle.card.specs.declared.calls.Call.{Call}
 use Rattle.report.specs.Lines.{ToldLine, ToldLines}
 use Rattle.report.specs.Lines as lines
 
--- the lines of what is left from i on, after this text, are all the lines
-abbrev pub Completes : List Call → List Answer → ℕ → List ℕ → Type 0
-Completes calls answers i text = (rest : List ℕ) → ToldLines (drop i calls) (drop i answers) rest → ToldLines calls answers (text ++ rest)
+-- the lines of what is left of both lists, after this text, are all the lines
+abbrev pub Completes : List Call → List Answer → List Call → List Answer → List ℕ → Type 0
+Completes calls answers left_calls left_answers text = (rest : List ℕ) → ToldLines left_calls left_answers rest → ToldLines calls answers (text ++ rest)
 
-pub completes_more : (calls : List Call) (answers : List Answer) (i : ℕ) (c : Call) (a : Answer) → i < length calls → i < length answers → (text line : List ℕ)
-    → ToldLine (get_or calls i c) (get_or answers i a) line → Completes calls answers i text → Completes calls answers (i + 1) (text ++ line)
-completes_more calls answers i c a in-calls in-answers text line told before rest left =
-    rw append_assoc
-    (before (line ++ rest)
-    (rw (drop_more calls i c in-calls, drop_more answers i a in-answers) (lines.then_told _ _ _ _ line rest told left)))
+module _ (calls : List Call) (answers : List Answer) where
+  pub completes_more : (c : Call) (cs : List Call) (a : Answer) (ans : List Answer) (text line : List ℕ) → ToldLine c a line → Completes calls answers (c ∷ cs) (a ∷ ans) text → Completes calls answers cs ans (text ++ line)
+  completes_more c cs a ans text line told before rest left = rw append_assoc (before (line ++ rest) (lines.then_told c a cs ans line rest told left))
 
-pub complete : (calls : List Call) (answers : List Answer) (i : ℕ) (text : List ℕ) → (length calls ≤ i) ⊎ (length answers ≤ i) → Completes calls answers i text → ToldLines calls answers text
-complete calls answers i text (inl all) whole = rw append-nil at (whole [] (rw (drop_all i calls all) (lines.no_more_calls _)))
-complete calls answers i text (inr all) whole = rw append-nil at (whole [] (rw (drop_all i answers all) (lines.no_more_answers _)))
+  pub no_more_calls : (cs : List Call) (ans : List Answer) (text : List ℕ) → length cs ≡ 0 → Completes calls answers cs ans text → ToldLines calls answers text
+  no_more_calls [] ans text e whole = rw append-nil at (whole [] (lines.no_more_calls ans))
+  no_more_calls (c ∷ cs) ans text e whole = absurd (omega arith)
 
-pub past_either : (m n i : ℕ) → min m n ≤ i → (m ≤ i) ⊎ (n ≤ i)
-past_either m n i h = elim (cases_lt m n) [ inl less ↦ inl (omega arith) | inr more ↦ inr (omega arith) ]
+  pub no_more_answers : (cs : List Call) (ans : List Answer) (text : List ℕ) → length ans ≡ 0 → Completes calls answers cs ans text → ToldLines calls answers text
+  no_more_answers cs [] text e whole = rw append-nil at (whole [] (lines.no_more_answers cs))
+  no_more_answers cs (a ∷ ans) text e whole = absurd (omega arith)

@@ -1,6 +1,8 @@
 -- The line of each answer, and the lines of a run.
 use Rattle.std.specs.Prelude.{◌≡◌, ℕ, List, [], ◌∷◌, ◌++◌, codes, decimal, Option}
+use Rattle.model.specs.Weights.{kind_word}
 use Rattle.model.specs.declared.weights.LoadKind.{LoadKind}
+use Rattle.table.specs.Told.{refusal_text}
 use Rattle.card.specs.Told.{job_told}
 use Rattle.card.specs.declared.answers.Answer.{Answer}
 use Rattle.card.specs.declared.answers.Answer.TheVariants.{Refused, Done, Handed, Rated}
@@ -9,7 +11,7 @@ use Rattle.card.specs.declared.answers.Rating.{Rating}
 use Rattle.card.specs.declared.calls.Call.{Call}
 use Rattle.card.specs.declared.calls.Call.TheVariants.{Kerbs, Factors, Reduce, Posted, Withdraw, Figure, Drawing}
 use Rattle.report.specs.Shown.{OtherStarts, StartsAt, place_from}
-use Rattle.report.specs.Texts.{cell_text, cells_text, drawing_word, duty_word, figure_word, kind_word, refusal_text, spaced}
+use Rattle.report.specs.Texts.{cell_text, cells_text, drawing_word, duty_word, figure_word, spaced}
 
 -- kind,value, and three cells twice
 abbrev pub row_text : List ℕ → ℕ → List ℕ → List ℕ → List ℕ

@@ -1,24 +1,23 @@
 // The cells of a line: a number or nothing, three of them with commas, and any number of them with blanks.
-ghost use Rattle.std.specs.Prelude.{◌≡◌, IfOk, string_bytes};
+ghost use Rattle.std.specs.Prelude.{◌≡◌, IfOk, Some, string_bytes};
 ghost use Rattle.report.specs.Texts.{after_blank, cell_text, cells_text, spaced};
 
 use std::alloc::{AllocError, Global};
+use std::fmt;
 
 // A number, or nothing where it is absent.
-fn cell(heap: Global, value: Option<u32>) -> Result<String, AllocError>
-    ensures { IfOk result (λ s. string_bytes s ≡ cell_text value) }
-{
-    match value {
-        Some(n) => format!(in heap; "{n}"),
-        None => Ok(String::new(heap)),
-    }
-}
+#[derive(Clone, Copy, PartialEq, Eq, Debug)]
+struct Cell(Option<u32>);
 
-// Three texts with commas between them.
-fn with_commas(heap: Global, a: &str, b: &str, c: &str) -> Result<String, AllocError>
-    ensures { IfOk result (λ s. string_bytes s ≡ cells_text a.now b.now c.now) }
-{
-    format!(in heap; "{a},{b},{c}")
+impl fmt::Display for Cell {
+    ghost output = { λ cell. Some (cell_text cell.0) };
+
+    fn fmt<W: fmt::Write>(&self, f: &mut fmt::Formatter<W>) -> fmt::Result {
+        match self.0 {
+            Some(number) => write!(f, "{number}"),
+            None => Ok(()),
+        }
+    }
 }
 
 // Three cells with commas between them.
@@ -30,10 +29,10 @@ pub fn three_cells(
 ) -> Result<String, AllocError>
     ensures { IfOk result (λ s. string_bytes s ≡ cells_text (cell_text first) (cell_text second) (cell_text third)) }
 {
-    let a = cell(heap, first)?;
-    let b = cell(heap, second)?;
-    let c = cell(heap, third)?;
-    with_commas(heap, a.as_str(), b.as_str(), c.as_str())
+    let a = Cell(first);
+    let b = Cell(second);
+    let c = Cell(third);
+    format!(in heap; "{a},{b},{c}")
 }
 
 // A number after a blank.

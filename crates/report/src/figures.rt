@@ -5,7 +5,7 @@ ghost use Rattle.report.specs.Lines.{FigureCells, ShownLine, figure_text};
 use crate::cells::{spaced_cell, three_cells};
 use crate::lanes::{ShownLane, shown_lane};
 use crate::others::other_starts;
-use crate::words::{duty_name, kind_name};
+use crate::words::duty_name;
 use card::answers::{Layout, Rating};
 use model::weights::LoadKind;
 use std::alloc::{AllocError, Global};
@@ -21,10 +21,9 @@ fn lane_cells(
 ) -> Result<String, AllocError>
     ensures { IfOk result (λ s. string_bytes s ≡ figure_text kind figure first.start second.start third.start first.place second.place third.place) }
 {
-    let name = kind_name(kind);
     let lanes = three_cells(heap, first.start, second.start, third.start)?;
     let places = three_cells(heap, first.place, second.place, third.place)?;
-    format!(in heap; "{name},{figure},{lanes},{places}")
+    format!(in heap; "{kind},{figure},{lanes},{places}")
 }
 
 // The cells of a figure, with lanes 1 to 3 as its layout shows them.

@@ -4,16 +4,12 @@ ghost use Rattle.report.specs.Shown.{place_from, StartsAt};
 
 use model::tandems::Tandem;
 
-// The first slice that the lane of this number owns.
+// The first slice that the lane of this number owns. By number, as a rule of the project asks of the owners' list.
 fn lane_start(owners: &[u8; 300], lane: u8) -> Option<u32>
     ensures { StartsAt owners.now lane result }
 {
-    for j in 0..300 {
-        if owners[j] == lane {
-            return Some(j as u32);
-        }
-    }
-    None
+    let slice = owners.iter().position(|number| *number == lane)?;
+    Some(slice as u32)
 }
 
 // The rear place of the tandem of a lane that begins there.
@@ -21,10 +17,7 @@ fn rear_place(tandems: &[Tandem; 300], start: Option<u32>) -> Option<u32>
     requires { elim start [ Some j ↦ j < 300 | None ↦ Unit {0} ] }
     ensures { result ≡ place_from tandems.now start }
 {
-    match start {
-        Some(j) => tandems[j as usize].place,
-        None => None,
-    }
+    tandems[start? as usize].place
 }
 
 // What a line shows of a lane: its first slice and its tandem's rear place.

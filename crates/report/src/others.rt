@@ -4,20 +4,14 @@ ghost use Rattle.report.specs.Shown.{Begins, OtherStarts, count_of};
 
 use std::alloc::{AllocError, Global};
 
-// The number of an other lane among owners.
+// The number of an other lane among owners: numbers, as a rule of the project asks of that list.
 const OTHER: u8 = 4;
 
 // How many slices have this owner.
 fn owned_slices(owners: &[u8; 300], owner: u8) -> usize
     ensures { result ≡ count_of owners.now 300 owner }
 {
-    let mut count = 0;
-    for i in 0..300 {
-        if owners[i] == owner {
-            count += 1;
-        }
-    }
-    count
+    owners.iter().filter(|number| **number == owner).count()
 }
 
 // Whether a slice begins an other lane, after so many slices of other lanes: each lane has the width of lane 1.
@@ -34,11 +28,11 @@ pub fn other_starts(heap: Global, owners: &[u8; 300]) -> Result<Vec<u32>, AllocE
     let width = owned_slices(owners, 1);
     let mut starts = Vec::new(heap);
     let mut before = 0;
-    for j in 0..300 {
-        if begins(owners[j], before, width) {
+    for (j, number) in owners.iter().enumerate() {
+        if begins(*number, before, width) {
             starts.push(j as u32)?;
         }
-        if owners[j] == OTHER {
+        if *number == OTHER {
             before += 1;
         }
     }

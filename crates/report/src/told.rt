@@ -1,12 +1,22 @@
 // The line of each answer, and the lines of a run.
 ghost use Rattle.std.specs.Prelude.{◌≡◌, IfOk, string_bytes};
+ghost use Rattle.card.specs.Told.{job_told};
 ghost use Rattle.report.specs.Lines.{RatedLine, ToldLine, ToldLines};
+ghost use Rattle.table.specs.Told.{refusal_text};
 
 use crate::figures::shown_line;
-use crate::words::refusal_line;
 use card::answers::{Answer, Layout, Rating};
 use card::calls::Call;
+use card::fault::JobFault;
 use std::alloc::{AllocError, Global};
+use table::fault::Report;
+
+// The line of a refusal. As in `survey`, of a fault of its own layer: what both share is the report's line.
+fn refusal_line(heap: Global, fault: JobFault) -> Result<String, AllocError>
+    ensures { IfOk result (λ s. string_bytes s ≡ refusal_text (job_told fault)) }
+{
+    Report::from(fault).line(heap)
+}
 
 // The line of a rating; only a figure and a drawing have one.
 fn rated_line(
@@ -29,7 +39,7 @@ pub fn answer_line(heap: Global, call: Call, answer: &Answer) -> Result<String, 
     ensures { IfOk result (λ s. ToldLine call answer.now (string_bytes s)) }
 {
     match answer {
-        Answer::Refused(fault) => refusal_line(heap, fault.report()),
+        Answer::Refused(fault) => refusal_line(heap, *fault),
         Answer::Done => String::from_str(heap, "taken\n"),
         Answer::Handed { number, serial } => format!(in heap; "duty,{number},{serial}\n"),
         Answer::Rated { rating, layout } => rated_line(heap, call, *rating, layout),
@@ -41,9 +51,8 @@ pub fn answer_lines(heap: Global, calls: &[Call], answers: &[Answer]) -> Result<
     ensures { IfOk result (λ s. ToldLines calls.now answers.now (string_bytes s)) }
 {
     let mut text = String::new(heap);
-    let count = calls.len().min(answers.len());
-    for i in 0..count {
-        let line = answer_line(heap, calls[i], &answers[i])?;
+    for (call, answer) in calls.iter().zip(answers) {
+        let line = answer_line(heap, *call, answer)?;
         text.push_str(line.as_str())?;
     }
     Ok(text)

@@ -1,5 +1,4 @@
 pub mod Following
-pub mod Fronts
 pub mod Numbered
 pub mod Reading
 pub mod Saying

@@ -6,22 +6,27 @@ use Rattle.table.specs.Numbers.{Writes, Counts}
 use Rattle.table.specs.declared.fault.TextFault.{TextFault}
 use Rattle.table.specs.declared.fault.TextFault.TheVariants.{Malformed}
 use Rattle.records.specs.Numbers.{Written, Missed}
+use Rattle.records.proofs.Progress.{written_length}
 use Rattle.card.specs.Ample.{ample}
 use Rattle.card.specs.declared.calls.Call.{Call}
 use Rattle.card.specs.declared.calls.Lengths.{Lengths}
 use Rattle.model.specs.declared.weights.LoadKind.{LoadKind}
-use Rattle.script.specs.Calls.{Opens, Unopened, RatesBy, NotRated, Said, Unsaid, SetBy, LentBy, rater_call}
+use Rattle.script.specs.Calls.{Opens, Unopened, RatesBy, NotRated, Said, Unsaid, SetBy, LentBy, rater_call, setter_call}
 use Rattle.script.specs.Calls as calls
 use Rattle.script.specs.Edges.{EdgeHeaded, EdgeUnheaded}
 use Rattle.script.specs.Edges as edges
 use Rattle.script.specs.Lines.{Split}
 use Rattle.script.specs.Rest.{Naturals, NotNumbers}
-use Rattle.report.specs.Texts.{kind_word}
+use Rattle.model.specs.Weights.{kind_word}
 use Rattle.script.specs.Words.{open_word, verb_word, setter_count}
 use Rattle.script.specs.declared.words.Rater.{Rater}
 use Rattle.script.specs.declared.words.Setter.{Setter}
 use Rattle.script.specs.declared.words.Verb.{Verb}
 use Rattle.script.specs.declared.words.Verb.TheVariants.{Sets, Rates}
+
+-- as many numbers as the call takes make it
+pub set_by : (v : Setter) (ds : List Cell) (ns : List ℕ) → length ds ≡ setter_count v → Naturals ds ns → (k : Call) → k ≡ setter_call v ns → SetBy v ds k
+set_by v ds ns few w k is = record { numbers = ns; written = w; count = written_length Counts ds ns w ∙ few; call = is }
 
 module _ {cs : List Cell} {c : Cell} {rest ys : List ℕ} (s : Split cs c rest ys) where
   pub others_long : {n : ℕ} → length cs ≡ n → length s.others + 1 ≡ n

@@ -1,5 +1,5 @@
 -- The surface's part of a script, record by record.
-use Rattle.std.proofs.Common.{◌≡◌, ℕ, zero, suc, ◌+◌, ◌<◌, ◌≤◌, Bool, List, [], ◌∷◌, ◌++◌, length, drop, Decides, sym, refl, ap, subst, arith}
+use Rattle.std.proofs.Common.{◌≡◌, ℕ, zero, suc, ◌+◌, ◌<◌, ◌≤◌, Bool, true, false, is_ok, Ok, Err, Result, MatchResult, List, [], ◌∷◌, ◌++◌, length, drop, Decides, sym, refl, ap, subst, arith}
 use Rattle.std.specs.List.{AllByRecursion}
 use Rattle.std.proofs.lemmas.List.{drop_all, length-drop, length_push}
 use Rattle.table.specs.Cells.{Cell}
@@ -88,9 +88,18 @@ module _ {input : List ℕ} {at number : ℕ} (s : Sofar input at number) where
 
 -- ---- the first record's word
 
-pub edge_decided : {input : List ℕ} {e : LineEnd} {b : Bool} → LineRead input 0 e → ((cs : List Cell) (ys : List ℕ) → Line cs input ys → Decides b (Says cs edge_word)) → Decides b (BeginsEdge input)
+edge_decided : {input : List ℕ} {e : LineEnd} {b : Bool} → LineRead input 0 e → ((cs : List Cell) (ys : List ℕ) → Line cs input ys → Decides b (Says cs edge_word)) → Decides b (BeginsEdge input)
 edge_decided {input} {e} l d = (λ h. record { cells = l.cells; after = drop e.end input; line = l.line; says = (d l.cells _ l.line).0 h }, λ g. (d g.cells _ g.line).1 g.says)
 
-pub edge_broken : {input : List ℕ} (e : TextFault) → length input ≤ 65536 → LineRefused input 0 1 e → BeginsEdge input → ⊥
+edge_broken : {input : List ℕ} (e : TextFault) → length input ≤ 65536 → LineRefused input 0 1 e → BeginsEdge input → ⊥
 edge_broken (Malformed r f) short l g = line_not_broken g.cells g.line l.1
 edge_broken TooLong short l g = absurd (omega arith)
+
+pub edge_read : {input : List ℕ} {b : Bool} (r : Result LineEnd TextFault) → is_ok r ≡ true → MatchResult r (LineRead input 0) (LineRefused input 0 1)
+    → ((cs : List Cell) (ys : List ℕ) → Line cs input ys → Decides b (Says cs edge_word)) → Decides b (BeginsEdge input)
+edge_read (Ok e) ok l d = edge_decided l d
+edge_read (Err e) ok l d = let z : ◌≡◌ {A = ℕ} 0 1 = cc in absurd (omega arith)
+
+pub edge_unread : {input : List ℕ} {b : Bool} (r : Result LineEnd TextFault) → length input ≤ 65536 → b ≡ false → b ≡ is_ok r → MatchResult r (LineRead input 0) (LineRefused input 0 1) → Decides b (BeginsEdge input)
+edge_unread (Ok e) short fails is l = let z : ◌≡◌ {A = ℕ} 0 1 = cc in absurd (omega arith)
+edge_unread (Err e) short fails is l = (λ h. let z : ◌≡◌ {A = ℕ} 0 1 = cc in absurd (omega arith), λ g. absurd (edge_broken e short l g))

@@ -19,7 +19,7 @@ use Rattle.script.specs.declared.words.Rater.TheVariants.{Figure, Drawing}
 use Rattle.script.specs.declared.words.Verb.{Verb}
 use Rattle.script.specs.declared.words.Verb.TheVariants.{Sets, Rates}
 use Rattle.script.specs.Rest.{Naturals, NotNumbers}
-use Rattle.report.specs.Texts.{kind_word}
+use Rattle.model.specs.Weights.{kind_word}
 use Rattle.script.specs.Words.{open_word, verb_word, setter_count}
 
 -- ---- opening: the word, the job's number, the first slice and the width

@@ -1,7 +1,8 @@
 -- The words of a script, each by one definition; those that its answers use too are the answers' own.
 use Rattle.std.specs.Prelude.{◌≡◌, ℕ, List, Some, None, codes, Option, ◌≢◌}
 use Rattle.model.specs.declared.weights.LoadKind.{LoadKind}
-use Rattle.report.specs.Texts.{figure_word, drawing_word, kind_word}
+use Rattle.report.specs.Texts.{figure_word, drawing_word}
+use Rattle.model.specs.Weights.{kind_word}
 use Rattle.script.specs.declared.words.Setter.{Setter}
 use Rattle.script.specs.declared.words.Setter.TheVariants.{Kerbs, Factors, Reduce, Posted, Withdraw}
 use Rattle.script.specs.declared.words.Rater.TheVariants.{Figure, Drawing}

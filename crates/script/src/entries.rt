@@ -1,15 +1,16 @@
-// Records that each say one entry, read to the end of the input.
-ghost use Rattle.std.specs.Prelude.{◌≡◌, ℕ, ◌≤◌, List, length, drop, MatchResult};
+// Records that each say one entry, read to the end of the script.
+ghost use Rattle.std.specs.Prelude.{◌≡◌, ℕ, ◌≤◌, List, length, MatchResult};
 ghost use Rattle.table.specs.Cells.{Cell};
-ghost use Rattle.table.specs.Lines.{Line};
+ghost use Rattle.table.specs.Lines.{Line, text_at};
 ghost use Rattle.table.specs.declared.fault.TextFault.{TextFault as Fault};
 ghost use Rattle.script.specs.Entries.{Entered, Stopped};
 ghost use Rattle.script.specs.Faults.{IfTold};
 
 use crate::fault::ScriptFault;
+use crate::place::Place;
 use std::alloc::Global;
+use table::cursor::Cursor;
 use table::fault::TextFault;
-use table::line::read_line;
 
 // What one record says.
 pub trait Entry: Copy {
@@ -19,29 +20,25 @@ pub trait Entry: Copy {
     // The fields of the record of this number say none, for this fault.
     ghost unsaid: { ℕ → List Cell → Fault → Type 0 };
 
-    // The entry that the record at byte `at` says, which has so many fields.
-    fn read(input: &[u8], at: usize, record: u32, fields: usize) -> Result<Self, TextFault>
-        ensures { (cs : List Cell) (ys : List ℕ) → Line cs (drop at input.now) ys → length cs ≡ fields → MatchResult result (λ v. said cs v) (λ e. unsaid «record» cs e) };
+    // The entry that the record here says, which has so many fields.
+    fn read(here: Cursor<'_>, fields: usize) -> Result<Self, TextFault>
+        ensures { (cs : List Cell) (ys : List ℕ) → Line cs (text_at here.entry) ys → length cs ≡ fields → MatchResult result (λ v. said cs v) (λ e. unsaid here.entry.«record» cs e) };
 }
 
-// Reads the records from byte `at` on, of which the first has the number `record`.
-pub fn read_entries<E: Entry + Drop>(
+// Reads the records from here on, in a loop from record to record, since one begins where the one before was seen to end.
+pub(crate) fn read_entries<E: Entry + Drop>(
     heap: Global,
-    input: &[u8],
-    at: usize,
-    record: u32,
+    from: Place<'_>,
 ) -> Result<Vec<E>, ScriptFault>
-    requires { (length input.now ≤ 65536) × ((at ≤ length input.now) × («record» ≤ 100000)) }
-    ensures { MatchResult result (λ v. Entered E.Entry.said (drop at input.now) v.items) (IfTold (Stopped E.Entry.said E.Entry.unsaid «record» (drop at input.now))) }
+    requires { from.cursor.«record» ≤ 100000 }
+    ensures { MatchResult result (λ v. Entered E.Entry.said (text_at from.entry.cursor) v.items) (IfTold (Stopped E.Entry.said E.Entry.unsaid from.entry.cursor.«record» (text_at from.entry.cursor))) }
 {
     let mut entries = Vec::new(heap);
-    let mut next = at;
-    let mut number = record;
-    while next < input.len() {
-        let line = read_line(input, next, number)?;
-        entries.push(E::read(input, next, number, line.fields)?)?;
-        next = line.next;
-        number += 1;
+    let mut here = from;
+    while !here.is_at_end() {
+        let line = here.line()?;
+        entries.push(E::read(here.cursor, line.fields)?)?;
+        here = here.after(line);
     }
     Ok(entries)
 }

@@ -7,7 +7,7 @@ use std::alloc::{AllocError, AllocFailed};
 use surface::fault::SurfaceFault;
 use table::fault::TextFault;
 
-#[derive(Clone, Copy)]
+#[derive(Clone, Copy, PartialEq, Eq, Debug)]
 pub enum ScriptFault {
     // The first fault of text or surface.
     Told(SurfaceFault),

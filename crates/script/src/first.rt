@@ -1,31 +1,28 @@
 // The first field of a record, or of what is left of one.
-ghost use Rattle.std.specs.Prelude.{ℕ, List, drop, MatchResult};
+ghost use Rattle.std.specs.Prelude.{◌≡◌, ℕ, List, IfOk, MatchResult};
 ghost use Rattle.table.specs.Cells.{Cell, cell_of};
-ghost use Rattle.table.specs.Lines.{Line};
+ghost use Rattle.table.specs.Lines.{Line, text_at};
 ghost use Rattle.script.specs.Lines.{Split};
 
+use table::cursor::Cursor;
 use table::fault::TextFault;
-use table::field::{Field, read_field};
+use table::field::Field;
 
-// A field, and where the one after it begins.
+// A field, and where the rest of its record begins.
 #[derive(Clone, Copy)]
 pub struct First<'a> {
     pub field: Field<'a>,
-    pub rest: usize,
+    pub rest: Cursor<'a>,
 }
 
-// The first field of the record at byte `at`.
-pub fn read_first<'a>(
-    input: &'a [u8],
-    at: usize,
-    record: u32,
-    field: u32,
-) -> Result<First<'a>, TextFault>
-    ensures { (cs : List Cell) (ys : List ℕ) → Line cs (drop at input.now) ys → MatchResult result (λ f. Split cs (cell_of f.field.text) (drop f.rest input.now) ys) (λ _. ⊥) }
+// The field that stands here, as this one of its record.
+pub fn read_first(here: Cursor<'_>, field: u32) -> Result<First<'_>, TextFault>
+    ensures split { (cs : List Cell) (ys : List ℕ) → Line cs (text_at here.entry) ys → MatchResult result (λ f. Split cs (cell_of f.field.text) (text_at f.rest) ys) (λ _. ⊥) }
+    ensures rest { IfOk result (λ f. f.rest.«record» ≡ here.entry.«record») }
 {
-    let read = read_field(input, at, record, field)?;
+    let read = here.field(field)?;
     Ok(First {
         field: read.field,
-        rest: read.next.saturating_add(1),
+        rest: here.moved_to(read.next.saturating_add(1)),
     })
 }

@@ -8,6 +8,7 @@ mod first;
 pub mod lined;
 pub mod opening;
 pub mod part;
+mod place;
 mod rest;
 mod stations;
 pub mod tail;

@@ -1,5 +1,6 @@
 // What follows the surface in a script: perhaps how it is turned, then the opening and the calls.
-ghost use Rattle.std.specs.Prelude.{◌≡◌, ℕ, ◌+◌, ◌≤◌, List, length, drop, MatchResult};
+ghost use Rattle.std.specs.Prelude.{◌≡◌, ◌+◌, ◌≤◌, MatchResult};
+ghost use Rattle.table.specs.Lines.{text_at};
 ghost use Rattle.script.specs.Faults.{IfTold};
 ghost use Rattle.script.specs.Tails.{TurnedFirst, TurnedStops, OpenedNext, OpenStops, TailSaid, TailRefused};
 
@@ -7,25 +8,24 @@ use crate::entries::read_entries;
 use crate::fault::ScriptFault;
 use crate::first::read_first;
 use crate::opening::{Opening, read_open};
+use crate::place::Place;
 use crate::turns::{Turns, read_turns};
 use card::calls::Call;
 use std::alloc::Global;
 use table::fault::TextFault;
-use table::line::read_line;
 
-// The turns, and where and as which record the next one begins.
+// The turns, and where the next record begins.
 #[derive(Clone, Copy)]
-struct Turned {
+struct Turned<'a> {
     turns: Turns,
-    next: usize,
-    record: u32,
+    next: Place<'a>,
 }
 
 // An opening, and where the next record begins.
 #[derive(Clone, Copy)]
-struct Opened {
+struct Opened<'a> {
     opening: Opening,
-    next: usize,
+    next: Place<'a>,
 }
 
 #[derive(Drop)]
@@ -35,61 +35,54 @@ pub struct Tail {
     pub calls: Vec<Call>,
 }
 
-// The turns that the record at byte `at` says, or none where it says no turns.
-fn read_turned(input: &[u8], at: usize, record: u32) -> Result<Turned, TextFault>
-    requires { (length input.now ≤ 65536) × ((at ≤ length input.now) × («record» ≤ 70000)) }
-    ensures { MatchResult result (λ t. TurnedFirst (drop at input.now) «record» t.turns (drop t.next input.now) t.«record» × ((t.next ≤ length input.now) × (t.«record» ≤ «record» + 1))) (TurnedStops «record» (drop at input.now)) }
+// The turns that the record here says, or none where it says no turns.
+fn read_turned(here: Place<'_>) -> Result<Turned<'_>, TextFault>
+    requires { here.cursor.«record» ≤ 70000 }
+    ensures { MatchResult result (λ t. TurnedFirst (text_at here.entry.cursor) here.entry.cursor.«record» t.turns (text_at t.next.cursor) t.next.cursor.«record» × (t.next.cursor.«record» ≤ here.entry.cursor.«record» + 1)) (TurnedStops here.entry.cursor.«record» (text_at here.entry.cursor)) }
 {
-    let here = Turned {
-        turns: Turns::none(),
-        next: at,
-        record,
+    let unturned = Turned {
+        turns: Turns::default(),
+        next: here,
     };
-    if at >= input.len() {
-        return Ok(here);
+    if here.is_at_end() {
+        return Ok(unturned);
     }
-    let line = read_line(input, at, record)?;
-    let word = read_first(input, at, record, 1)?;
+    let line = here.line()?;
+    let word = read_first(here.cursor, 1)?;
     if !word.field.is_word(b"turned") {
-        return Ok(here);
+        return Ok(unturned);
     }
-    let turns = read_turns(input, word.rest, record, line.fields - 1)?;
+    let turns = read_turns(word.rest, line.fields - 1)?;
     Ok(Turned {
         turns,
-        next: line.next,
-        record: record + 1,
+        next: here.after(line),
     })
 }
 
-// The opening that has to stand at byte `at`.
-fn read_opened(input: &[u8], at: usize, record: u32) -> Result<Opened, TextFault>
-    requires { (length input.now ≤ 65536) × (at ≤ length input.now) }
-    ensures { MatchResult result (λ o. OpenedNext (drop at input.now) o.opening.number o.opening.kerbs (drop o.next input.now) × (o.next ≤ length input.now)) (OpenStops «record» (drop at input.now)) }
+// The opening that has to stand here.
+fn read_opened(here: Place<'_>) -> Result<Opened<'_>, TextFault>
+    requires { here.cursor.«record» ≤ 80000 }
+    ensures { MatchResult result (λ o. OpenedNext (text_at here.entry.cursor) o.opening.number o.opening.kerbs (text_at o.next.cursor) × (o.next.cursor.«record» ≡ here.entry.cursor.«record» + 1)) (OpenStops here.entry.cursor.«record» (text_at here.entry.cursor)) }
 {
-    if at >= input.len() {
-        return Err(TextFault::Malformed { record, field: 0 });
+    if here.is_at_end() {
+        return Err(here.cursor.fault(0));
     }
-    let line = read_line(input, at, record)?;
-    let opening = read_open(input, at, record, line.fields)?;
+    let line = here.line()?;
+    let opening = read_open(here.cursor, line.fields)?;
     Ok(Opened {
         opening,
-        next: line.next,
+        next: here.after(line),
     })
 }
 
-// Reads the script from byte `at` on, where the record of this number begins.
-pub(crate) fn read_tail(
-    heap: Global,
-    input: &[u8],
-    at: usize,
-    record: u32,
-) -> Result<Tail, ScriptFault>
-    requires { (length input.now ≤ 65536) × ((at ≤ length input.now) × («record» ≤ 70000)) }
-    ensures { MatchResult result (λ t. TailSaid (drop at input.now) «record» t.turns t.opening.number t.opening.kerbs t.calls.items) (IfTold (TailRefused «record» (drop at input.now))) }
+// Reads the script from here on.
+pub(crate) fn read_tail(heap: Global, here: Place<'_>) -> Result<Tail, ScriptFault>
+    requires { here.cursor.«record» ≤ 70000 }
+    ensures { MatchResult result (λ t. TailSaid (text_at here.entry.cursor) here.entry.cursor.«record» t.turns t.opening.number t.opening.kerbs t.calls.items) (IfTold (TailRefused here.entry.cursor.«record» (text_at here.entry.cursor))) }
 {
-    let turned = read_turned(input, at, record)?;
-    let opened = read_opened(input, turned.next, turned.record)?;
-    let calls = read_entries(heap, input, opened.next, turned.record + 1)?;
+    let turned = read_turned(here)?;
+    let opened = read_opened(turned.next)?;
+    let calls = read_entries(heap, opened.next)?;
     Ok(Tail {
         turns: turned.turns,
         opening: opened.opening,

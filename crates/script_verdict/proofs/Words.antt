@@ -2,7 +2,7 @@
 use Rattle.std.proofs.Common.{◌≡◌, ℕ, cond, eqb, List, get_or, sym, refl, ap, ◌∙◌}
 use Rattle.model.specs.declared.weights.LoadKind.{LoadKind}
 use Rattle.model.specs.declared.weights.LoadKind.TheVariants.{Characteristic, Frequent}
-use Rattle.report.specs.Texts.{kind_word}
+use Rattle.model.specs.Weights.{kind_word}
 use Rattle.script.specs.Words.{verb_word, turn_word}
 use Rattle.script.specs.declared.words.Setter.TheVariants.{Kerbs, Factors, Reduce, Posted, Withdraw}
 use Rattle.script.specs.declared.words.Rater.TheVariants.{Figure, Drawing}

@@ -13,7 +13,7 @@ use Rattle.card.specs.declared.fault.JobFault.{JobFault}
 use Rattle.card.specs.declared.fault.JobFault.TheVariants.{Kerbs, Short}
 use Rattle.statement.specs.Runs.{Duty, Replayed, duty_of, duty_told}
 use Rattle.rating.proofs.Asked.{unless_none}
-use Rattle.report.specs.Texts.{refusal_text}
+use Rattle.table.specs.Told.{refusal_text}
 use Rattle.scripted.specs.Runs.{RanSo, RunText, OpenedLines, bytes_in, duty_left}
 use Rattle.scripted.specs.Runs as runs
 

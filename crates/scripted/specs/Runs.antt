@@ -10,7 +10,8 @@ use Rattle.card.specs.declared.calls.Call.{Call}
 use Rattle.card.specs.declared.fault.JobFault.{JobFault}
 use Rattle.statement.specs.Runs.{Duty, Whole, duty_of}
 use Rattle.report.specs.Lines.{ToldLines}
-use Rattle.report.specs.Texts.{opened_text, refusal_text}
+use Rattle.report.specs.Texts.{opened_text}
+use Rattle.table.specs.Told.{refusal_text}
 
 -- the bytes of a text that was made
 abbrev pub bytes_in : {X Y : Type 0} → (X → List ℕ) → Result X Y → Option (List ℕ)

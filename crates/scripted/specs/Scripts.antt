@@ -16,7 +16,7 @@ use Rattle.readings.specs.Blank.{blank_rows}
 use Rattle.model.specs.declared.lanes.Carriageway.{Carriageway}
 use Rattle.card.specs.declared.calls.Call.{Call}
 use Rattle.statement.specs.Runs.{Duty}
-use Rattle.report.specs.Texts.{refusal_text}
+use Rattle.table.specs.Told.{refusal_text}
 use Rattle.script.specs.Parts.{BeginsEdge}
 use Rattle.script.specs.Scripts.{MeasuredSays, MeasuredRefused, LinedSays, LinedRefused}
 use Rattle.script.specs.Turns.{turned_shape}

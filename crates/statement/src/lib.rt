@@ -12,64 +12,50 @@ use worths::Worth;
 
 // No permitted arrangement beats the rounded effect of its lanes; what is handed back is permitted and comes near it,
 // and owners tell it.
-pub fn effects_stand() -> u8
+pub fn effects_stand()
     ensures bounded { Bounded }
     ensures shown { Shown }
     ensures near { Near }
     ensures owners { OwnersTell }
-{
-    0
-}
+{}
 
 // Lanes in any order and parts from the left are the same thing.
-pub fn lanes_stand() -> u8
+pub fn lanes_stand()
     ensures cut { LanesCut }
     ensures laid { PartsLaid }
-{
-    0
-}
+{}
 
 // By any kind of worth, the parts that a placement chooses are the winner, whose owners are unique.
-pub fn winners_stand<W: Worth>() -> u8
+pub fn winners_stand<W: Worth>()
     ensures wins { ChosenWins W.Worth.kind W.Worth.made }
     ensures chosen { WinnerChosen W.Worth.kind W.Worth.made }
     ensures once { WinnerOnce W.Worth.kind W.Worth.made }
-{
-    0
-}
+{}
 
 // By any kind of worth, the best placement over the lists gives the figure that is promised.
-pub fn figures_stand<W: Worth>() -> u8
+pub fn figures_stand<W: Worth>()
     ensures lists { ListsCount }
     ensures low { ListsLow }
     ensures figure { RatedServes W.Worth.kind W.Worth.made }
-{
-    0
-}
+{}
 
 // Turning the surface keeps what is permitted, and the rounded effect of lanes.
-pub fn turning_stands() -> u8
+pub fn turning_stands()
     ensures sides_permitted { SidesPermitted }
     ensures ends_permitted { EndsPermitted }
     ensures sides { SidesKeep }
     ensures ends { EndsKeep }
-{
-    0
-}
+{}
 
 // A run that is met keeps the whole promise.
-pub fn runs_stand() -> u8
+pub fn runs_stand()
     ensures { MetServes }
-{
-    0
-}
+{}
 
 // What is permitted is not too narrow.
-pub fn permits_stand() -> u8
+pub fn permits_stand()
     ensures orders { EveryOrder }
     ensures places { EveryPlace }
     ensures empty { NoTandem }
     ensures loadings { EveryLoading }
-{
-    0
-}
+{}

@@ -1,17 +1,19 @@
 -- Products and quotients of ordinates stay in range: what weighted means and shares of ordinates come to.
-use Rattle.std.proofs.Common.{◌≡◌, ℕ, suc, ◌+◌, ◌*◌, ◌<◌, ◌≤◌, ℤ, pos, negsuc, ◌+ℤ◌, ◌*ℤ◌, nat_abs, refl, mul-le-mul_right, suc-mul, div-lt_iff_lt-mul, mul-le-mul, mul-add, arith}
+use Rattle.std.proofs.Common.{◌≡◌, ℕ, suc, ◌+◌, ◌*◌, ◌<◌, ◌≤◌, ℤ, pos, negsuc, ◌+ℤ◌, ◌*ℤ◌, nat_abs, mul-le-mul_right, suc-mul, div-lt_iff_lt-mul, mul-le-mul, mul-add, arith, w32, w64, to_z, of_z}
 use borrow.Author.Differences.{ints}
 use Rattle.std.specs.Int.{int_div_euclid}
-use Rattle.surface.specs.Turns.{abs_neg}
-
-pub abs_mul : (a b : ℤ) → nat_abs (a *ℤ b) ≡ nat_abs a * nat_abs b
-abs_mul (pos a) (pos b) = refl
-abs_mul (pos a) (negsuc b) = abs_neg (pos (a * suc b))
-abs_mul (negsuc a) (pos b) = abs_neg (pos (suc a * b))
-abs_mul (negsuc a) (negsuc b) = refl
+use Rattle.std.proofs.lemmas.Int.{unsigned_abs-mul}
 
 pub times_within : (v : ℤ) (n b : ℕ) → nat_abs v ≤ b → nat_abs (v *ℤ pos n) ≤ b * n
-times_within v n b h = omega (arith, abs_mul v (pos n), mul-le-mul_right n h)
+times_within v n b h = omega (arith, unsigned_abs-mul v (pos n), mul-le-mul_right n h)
+
+-- a product as code computes it, of an i32 and a number below 2 ^ 32, both as i64
+pub product_is : (v l : ℤ) (n : ℕ) → nat_abs v < 2147483648 → n < 4294967296 → l ≡ to_z w32 (of_z w32 v) → to_z w64 (of_z w64 (to_z w64 (of_z w64 l) *ℤ to_z w64 n)) ≡ v *ℤ pos n
+product_is v l n hv hn e =
+    let a : to_z w64 (of_z w64 l) ≡ v = omega (arith, ints) in
+    let b : to_z w64 n ≡ pos n = omega (arith, ints) in
+    let w = times_within v n 2147483647 (omega arith) in
+    simp (a, b) (omega (arith, ints))
 
 pub quotient_within : (z : ℤ) (d b : ℕ) → 0 < d → nat_abs z ≤ b * d → nat_abs (int_div_euclid z (pos d)) ≤ b
 quotient_within (pos a) d b some h = let g : a < suc b * d = omega (arith, suc-mul b d) in omega (arith, (div-lt_iff_lt-mul {y = suc b} some).1 g)
@@ -27,4 +29,4 @@ mix_within v u x y b hv hu =
 pub product_within : (v w : ℤ) (a b : ℕ) → nat_abs v ≤ a → nat_abs w ≤ b → nat_abs (v *ℤ w) ≤ a * b
 product_within v w a b hv hw =
     let m : nat_abs v * nat_abs w ≤ a * b = mul-le-mul hv hw in
-    omega (arith, abs_mul v w)
+    omega (arith, unsigned_abs-mul v w)

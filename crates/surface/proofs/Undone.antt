@@ -1,5 +1,6 @@
 -- Each turn undoes itself.
-use Rattle.std.proofs.Common.{◌≡◌, ℕ, zero, suc, ◌-◌, ℤ, pos, negsuc, neg_ℤ, refl, ap, arith}
+use Rattle.std.proofs.Common.{◌≡◌, ℕ, ◌-◌, refl, ap, arith}
+use Rattle.std.proofs.Math.IntN.{neg_ℤ-neg_ℤ}
 use Rattle.surface.specs.Shape.{Shape, Lawful, side_for_side, end_for_end}
 use Rattle.surface.specs.Turns.{place_rises}
 use Rattle.surface.specs.Undone.{Alike, TurnsUndone}
@@ -25,10 +26,5 @@ ends_undone s w = record {
   ordinate = λ j k h i. ap (s.ordinate j) (let e : s.stations - 1 - (s.stations - 1 - k) ≡ k = omega arith in e);
 }
 
-neg_neg : (z : ℤ) → neg_ℤ (neg_ℤ z) ≡ z
-neg_neg (pos zero) = refl
-neg_neg (pos (suc n)) = refl
-neg_neg (negsuc n) = refl
-
 pub turns_undone : TurnsUndone
-turns_undone s w = (sides_undone s, ends_undone s w, record { slices = refl; stations = refl; place = λ k h. refl; ordinate = λ j k h i. neg_neg (s.ordinate j k) })
+turns_undone s w = (sides_undone s, ends_undone s w, record { slices = refl; stations = refl; place = λ k h. refl; ordinate = λ j k h i. neg_ℤ-neg_ℤ (s.ordinate j k) })

@@ -1,7 +1,14 @@
 -- The turned shapes of a lawful shape are lawful.
 use Rattle.std.specs.Prelude.{◌≡◌, ℕ, zero, suc, ◌+◌, ◌-◌, ◌<◌, ◌≤◌, ℤ, pos, negsuc, neg_ℤ, unsigned_abs, refl}
-use Rattle.std.proofs.Common.{ap, arith, add-zero}
+use Rattle.std.proofs.Common.{ap, arith}
+use Rattle.surface.specs.Rising.{rises}
 use Rattle.surface.specs.Shape.{Shape, Lawful, side_for_side, end_for_end, opposite}
+
+-- what holds of a way of turning: as many slices and stations as before, and what is turned stays lawful
+pub record TurnLaws (turned : Shape → Shape) : Type 0 where
+  pub slices : (s : Shape) → (turned s).slices ≡ s.slices
+  pub stations : (s : Shape) → (turned s).stations ≡ s.stations
+  pub lawful : (s : Shape) → Lawful s → Lawful (turned s)
 
 -- ---- side for side
 pub side_lawful : (s : Shape) → Lawful s → Lawful (side_for_side s)
@@ -16,21 +23,13 @@ side_lawful s w = record {
   within = λ j k h i. w.within (s.slices - 1 - j) k (omega arith) i;
 }
 
--- ---- end for end
-climb : (s : Shape) → Lawful s → (i d : ℕ) → i + d < s.stations → s.place i ≤ s.place (i + d)
-climb s w i zero h = simp add-zero (omega arith)
-climb s w i (suc d) h =
-    let up = climb s w i d (omega arith) in
-    let here = w.rises (i + d) (omega arith) in
-    let e : s.place (i + d + 1) ≡ s.place (i + suc d) = ap s.place (omega arith) in
-    omega arith
+pub side_laws : TurnLaws side_for_side
+side_laws = record { slices = λ s. refl; stations = λ s. refl; lawful = side_lawful }
 
+-- ---- end for end
 -- places rise from station to station
 pub place_rises : (s : Shape) → Lawful s → (i k : ℕ) → i ≤ k → k < s.stations → s.place i ≤ s.place k
-place_rises s w i k h b =
-    let e : s.place (i + (k - i)) ≡ s.place k = ap s.place (omega arith) in
-    let up = climb s w i (k - i) (omega arith) in
-    omega arith
+place_rises s w = rises s.place s.stations w.rises
 
 pub end_lawful : (s : Shape) → Lawful s → Lawful (end_for_end s)
 end_lawful s w = record {
@@ -51,6 +50,9 @@ end_lawful s w = record {
   within = λ j k h i. w.within j (s.stations - 1 - k) h (omega arith);
 }
 
+pub end_laws : TurnLaws end_for_end
+end_laws = record { slices = λ s. refl; stations = λ s. refl; lawful = end_lawful }
+
 -- ---- opposite
 pub abs_neg : (z : ℤ) → unsigned_abs (neg_ℤ z) ≡ unsigned_abs z
 abs_neg (pos zero) = refl
@@ -68,3 +70,6 @@ opposite_lawful s w = record {
   ends = w.ends;
   within = λ j k h i. simp abs_neg (w.within j k h i);
 }
+
+pub opposite_laws : TurnLaws opposite
+opposite_laws = record { slices = λ s. refl; stations = λ s. refl; lawful = opposite_lawful }

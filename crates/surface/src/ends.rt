@@ -1,53 +1,31 @@
-// A surface turned end for end.
-ghost use Rattle.std.specs.Prelude.{◌≡◌};
+// End for end: the stations in reverse.
 ghost use Rattle.surface.specs.Shape.{end_for_end};
-ghost use Rattle.surface.specs.Turns.{end_lawful};
+ghost use Rattle.surface.specs.Turns.{end_laws};
 
 use crate::Surface;
 use crate::fault::SurfaceFault;
+use crate::turned::{Turn, Turned, reversed};
 
-// Stations in reverse, measured from the last place.
-#[derive(Drop)]
-pub struct EndForEnd<S> {
-    below: S,
-}
+// Station k shows station m - 1 - k of the surface below, and places are measured from the last one.
+pub struct Ends;
 
-impl<S: Surface> EndForEnd<S> {
-    pub fn new(below: S) -> Self
-        ensures { result.below ≡ below }
-    {
-        EndForEnd { below }
-    }
-}
+// A surface turned end for end.
+pub type EndForEnd<S> = Turned<S, Ends>;
 
-impl<S: Surface> Surface for EndForEnd<S> {
-    ghost shape = { λ s. end_for_end (S.Surface.shape s.below) };
+impl Turn for Ends {
+    ghost turned = { end_for_end };
 
-    ghost lawful = { λ s. end_lawful (S.Surface.shape s.below) (S.Surface.lawful s.below) };
+    ghost laws = { end_laws };
 
-    fn slices(&self) -> usize {
-        self.below.slices()
-    }
-
-    fn stations(&self) -> usize {
-        self.below.stations()
-    }
-
-    fn place(&self, k: usize) -> Result<u32, SurfaceFault> {
-        let m = self.stations();
-        if k >= m {
-            return Err(SurfaceFault::Absent);
-        }
-        let last = self.below.place(m - 1)?;
-        let from = self.below.place(m - 1 - k)?;
+    fn place<S: Surface>(below: &S, k: usize) -> Result<u32, SurfaceFault> {
+        let m = below.stations();
+        let i = reversed(m, k)?;
+        let from = below.place(i)?;
+        let last = below.place(m - 1)?;
         Ok(last - from)
     }
 
-    fn ordinate(&self, j: usize, k: usize) -> Result<i32, SurfaceFault> {
-        let m = self.stations();
-        if k >= m {
-            return Err(SurfaceFault::Absent);
-        }
-        self.below.ordinate(j, m - 1 - k)
+    fn ordinate<S: Surface>(below: &S, j: usize, k: usize) -> Result<i32, SurfaceFault> {
+        below.ordinate(j, reversed(below.stations(), k)?)
     }
 }

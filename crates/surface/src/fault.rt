@@ -29,43 +29,24 @@ impl From<TextFault> for SurfaceFault {
     }
 }
 
-impl SurfaceFault {
+impl From<SurfaceFault> for Report {
+    ghost from_gives = { λ f r. r ≡ surface_told f };
+
     // The refusal's number, layer and place.
-    pub fn report(self) -> Report
-        ensures { result ≡ surface_told self }
-    {
-        match self {
-            SurfaceFault::Text(f) => f.report(),
-            SurfaceFault::Counts { record, field } => Report {
-                number: 2,
-                layer: Layer::Surface,
-                record,
-                field,
-            },
-            SurfaceFault::Place { record, field } => Report {
-                number: 3,
-                layer: Layer::Surface,
-                record,
-                field,
-            },
-            SurfaceFault::Ordinate { record, field } => Report {
-                number: 4,
-                layer: Layer::Surface,
-                record,
-                field,
-            },
-            SurfaceFault::Short { record } => Report {
-                number: 9,
-                layer: Layer::Surface,
-                record,
-                field: 0,
-            },
-            SurfaceFault::Absent => Report {
-                number: 10,
-                layer: Layer::Surface,
-                record: 0,
-                field: 0,
-            },
+    fn from(f: SurfaceFault) -> Report {
+        let (number, record, field) = match f {
+            SurfaceFault::Text(t) => return Report::from(t),
+            SurfaceFault::Counts { record, field } => (2, record, field),
+            SurfaceFault::Place { record, field } => (3, record, field),
+            SurfaceFault::Ordinate { record, field } => (4, record, field),
+            SurfaceFault::Short { record } => (9, record, 0),
+            SurfaceFault::Absent => (10, 0, 0),
+        };
+        Report {
+            number,
+            layer: Layer::Surface,
+            record,
+            field,
         }
     }
 }

@@ -2,8 +2,6 @@
 ghost use Rattle.surface.specs.Undone.{TurnsUndone};
 
 // Turning twice the same way gives the surface that it was.
-pub fn turns_are_undone() -> bool
+pub fn turns_are_undone()
     ensures { TurnsUndone }
-{
-    true
-}
+{}

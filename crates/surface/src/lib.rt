@@ -7,6 +7,7 @@ ghost use Rattle.surface.specs.Asked.{Asked};
 
 use crate::fault::SurfaceFault;
 
+pub mod each;
 pub mod ends;
 pub mod fault;
 pub mod laws;
@@ -14,6 +15,7 @@ pub mod opposite;
 pub mod questions;
 pub mod sides;
 pub mod stations;
+pub mod turned;
 
 // An influence surface, by its meaning. Slices, stations, places and ordinates are all that is asked of one.
 pub trait Surface {

@@ -1,52 +1,28 @@
-// A surface with every ordinate negated, which serves least effects.
-ghost use Rattle.std.specs.Prelude.{◌≡◌, ◌≤◌, neg_ℤ, unsigned_abs};
+// Opposite: the ordinates negated, which serves least effects.
 ghost use Rattle.surface.specs.Shape.{opposite};
-ghost use Rattle.surface.specs.Turns.{opposite_lawful};
+ghost use Rattle.surface.specs.Turns.{opposite_laws};
 
 use crate::Surface;
 use crate::fault::SurfaceFault;
+use crate::turned::{Turn, Turned};
 
-// The ordinate with the other sign.
-fn negated(v: i32) -> i32
-    requires { unsigned_abs v ≤ 100000 }
-    ensures { result ≡ neg_ℤ v }
-{
-    0 - v
-}
+// Each ordinate has the other sign.
+pub struct Negated;
 
-// Every ordinate negated.
-#[derive(Drop)]
-pub struct Opposite<S> {
-    below: S,
-}
+// A surface with every ordinate negated.
+pub type Opposite<S> = Turned<S, Negated>;
 
-impl<S: Surface> Opposite<S> {
-    pub fn new(below: S) -> Self
-        ensures { result.below ≡ below }
-    {
-        Opposite { below }
-    }
-}
+impl Turn for Negated {
+    ghost turned = { opposite };
 
-impl<S: Surface> Surface for Opposite<S> {
-    ghost shape = { λ s. opposite (S.Surface.shape s.below) };
+    ghost laws = { opposite_laws };
 
-    ghost lawful = { λ s. opposite_lawful (S.Surface.shape s.below) (S.Surface.lawful s.below) };
-
-    fn slices(&self) -> usize {
-        self.below.slices()
+    // The same line in `sides`: no default can promise it of every way of turning.
+    fn place<S: Surface>(below: &S, k: usize) -> Result<u32, SurfaceFault> {
+        below.place(k)
     }
 
-    fn stations(&self) -> usize {
-        self.below.stations()
-    }
-
-    fn place(&self, k: usize) -> Result<u32, SurfaceFault> {
-        self.below.place(k)
-    }
-
-    fn ordinate(&self, j: usize, k: usize) -> Result<i32, SurfaceFault> {
-        let v = self.below.ordinate(j, k)?;
-        Ok(negated(v))
+    fn ordinate<S: Surface>(below: &S, j: usize, k: usize) -> Result<i32, SurfaceFault> {
+        below.ordinate(j, k).map(|v| -v)
     }
 }

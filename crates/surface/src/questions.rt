@@ -8,10 +8,7 @@ pub fn place_of<S: Surface>(surface: &S, k: usize) -> u32
     requires { k < (S.Surface.shape surface.now).stations }
     ensures { result ≡ (S.Surface.shape surface.now).place k }
 {
-    match surface.place(k) {
-        Ok(z) => z,
-        Err(_) => unreachable(),
-    }
+    surface.place(k).unwrap()
 }
 
 // The ordinate of a slice and a station that are there.
@@ -20,8 +17,5 @@ pub fn ordinate_of<S: Surface>(surface: &S, j: usize, k: usize) -> i32
     ensures value { result ≡ (S.Surface.shape surface.now).ordinate j k }
     ensures within { unsigned_abs result ≤ 100000 }
 {
-    match surface.ordinate(j, k) {
-        Ok(v) => v,
-        Err(_) => unreachable(),
-    }
+    surface.ordinate(j, k).unwrap()
 }

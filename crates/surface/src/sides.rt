@@ -1,47 +1,28 @@
-// A surface turned side for side.
-ghost use Rattle.std.specs.Prelude.{◌≡◌};
+// Side for side: the slices in reverse.
 ghost use Rattle.surface.specs.Shape.{side_for_side};
-ghost use Rattle.surface.specs.Turns.{side_lawful};
+ghost use Rattle.surface.specs.Turns.{side_laws};
 
 use crate::Surface;
 use crate::fault::SurfaceFault;
+use crate::turned::{Turn, Turned, reversed};
 
 // Slice j shows slice n - 1 - j of the surface below.
-#[derive(Drop)]
-pub struct SideForSide<S> {
-    below: S,
-}
+pub struct Sides;
 
-impl<S: Surface> SideForSide<S> {
-    pub fn new(below: S) -> Self
-        ensures { result.below ≡ below }
-    {
-        SideForSide { below }
-    }
-}
+// A surface turned side for side.
+pub type SideForSide<S> = Turned<S, Sides>;
 
-impl<S: Surface> Surface for SideForSide<S> {
-    ghost shape = { λ s. side_for_side (S.Surface.shape s.below) };
+impl Turn for Sides {
+    ghost turned = { side_for_side };
 
-    ghost lawful = { λ s. side_lawful (S.Surface.shape s.below) (S.Surface.lawful s.below) };
+    ghost laws = { side_laws };
 
-    fn slices(&self) -> usize {
-        self.below.slices()
+    // The same line in `opposite`: no default can promise it of every way of turning.
+    fn place<S: Surface>(below: &S, k: usize) -> Result<u32, SurfaceFault> {
+        below.place(k)
     }
 
-    fn stations(&self) -> usize {
-        self.below.stations()
-    }
-
-    fn place(&self, k: usize) -> Result<u32, SurfaceFault> {
-        self.below.place(k)
-    }
-
-    fn ordinate(&self, j: usize, k: usize) -> Result<i32, SurfaceFault> {
-        let n = self.slices();
-        if j >= n {
-            return Err(SurfaceFault::Absent);
-        }
-        self.below.ordinate(n - 1 - j, k)
+    fn ordinate<S: Surface>(below: &S, j: usize, k: usize) -> Result<i32, SurfaceFault> {
+        below.ordinate(reversed(below.slices(), j)?, k)
     }
 }

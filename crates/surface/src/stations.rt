@@ -6,12 +6,12 @@ ghost use Rattle.surface.specs.Stations.{place_fits};
 pub fn place_fits(k: usize, before: i64, place: i32) -> bool
     ensures { result ≡ place_fits k before place }
 {
-    if place < 0 || place >= 200_000 {
+    if !(0..200_000).contains(&place) {
         return false;
     }
     if k == 0 {
-        place as u32 == 0
+        place == 0
     } else {
-        before < place as i64
+        before < i64::from(place)
     }
 }

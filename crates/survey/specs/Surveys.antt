@@ -1,16 +1,13 @@
 -- What a run's table gives: the surface that its draft is sealed to, or why the table is refused.
-use Rattle.std.specs.Prelude.{◌≡◌, ℕ, List, replicate, pos, Ok, Err}
+use Rattle.std.specs.Prelude.{◌≡◌, ℕ, List, Ok, Err}
 use Rattle.measured.specs.Judged.{seal_judged}
 use Rattle.measured.specs.Rows.{rows_shape}
 use Rattle.measured.specs.declared.row.Row.{Row}
+use Rattle.readings.specs.Blank.{blank_rows}
 use Rattle.readings.specs.Runs.{RunTaken, RunRefused}
 use Rattle.surface.specs.declared.fault.SurfaceFault.{SurfaceFault}
 use Rattle.survey.specs.Extents.{Extends}
 use Rattle.survey.specs.declared.extent.Extent.{Extent}
-
--- 64 rows with nothing in them
-abbrev pub blank_rows : List Row
-blank_rows = replicate 64 (record { place = 0; ordinates = replicate 8 (pos 0) })
 
 -- the table was read whole, and its draft has these rows
 pub record Drafted (input : List ℕ) : Type 0 where

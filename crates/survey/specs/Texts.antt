@@ -3,20 +3,9 @@ use Rattle.std.specs.Prelude.{◌≡◌, ℕ, List, ◌++◌, ℤ, codes, decima
 use Rattle.std.specs.Fmt.{signed_decimal}
 use Rattle.surface.specs.Told.{surface_told}
 use Rattle.surface.specs.declared.fault.SurfaceFault.{SurfaceFault}
-use Rattle.table.specs.declared.fault.Layer.{Layer}
-use Rattle.table.specs.declared.fault.Layer.TheVariants.{Text, Surface, Job}
-use Rattle.table.specs.declared.fault.Report.{Report}
+use Rattle.table.specs.Told.{refusal_text}
 use Rattle.survey.specs.Surveys.{Surveyed, SurveyRefused}
 use Rattle.survey.specs.declared.extent.Extent.{Extent}
-
-abbrev pub layer_word : Layer → List ℕ
-layer_word Text = codes "text"
-layer_word Surface = codes "surface"
-layer_word Job = codes "job"
-
--- refused,number,layer,record,field
-abbrev pub refusal_text : Report → List ℕ
-refusal_text r = codes "refused," ++ (decimal r.number ++ (codes "," ++ (layer_word r.layer ++ (codes "," ++ (decimal r.«record» ++ (codes "," ++ (decimal r.field ++ codes "\n")))))))
 
 -- a header, then slices, stations, last place, least and greatest ordinate
 abbrev pub values_text : ℕ → ℕ → ℕ → ℤ → ℤ → List ℕ

@@ -45,6 +45,7 @@ impl Range {
 }
 
 // The range of the ordinates of one slice.
+// By number: a surface is asked and holds no list.
 fn slice_range<S: Surface>(surface: &S, j: usize) -> Range
     requires { j < (S.Surface.shape surface.now).slices }
     ensures { Spans (Station (S.Surface.shape surface.now).stations) ((S.Surface.shape surface.now).ordinate j) result }
@@ -57,6 +58,7 @@ fn slice_range<S: Surface>(surface: &S, j: usize) -> Range
 }
 
 // The range of all ordinates.
+// By number: a surface is asked and holds no list.
 fn whole_range<S: Surface>(surface: &S) -> Range
     ensures { Spans (On (S.Surface.shape surface.now).slices (S.Surface.shape surface.now).stations) (λ x. (S.Surface.shape surface.now).ordinate x.slice x.station) result }
 {

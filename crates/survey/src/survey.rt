@@ -17,20 +17,15 @@ fn sealed_extent(draft: Draft, rows: &[Row]) -> Result<Extent, SurfaceFault>
     ensures { Granted (seal_judged draft.layout.count rows.now draft.filled) result (λ e. Extends (rows_shape draft.layout.slices draft.layout.count draft.layout.paths draft.filled rows.now) e) }
 {
     let mut surface = Measured::level();
-    match draft.seal(rows, &mut surface) {
-        Ok(()) => Ok(extent_of(&surface)),
-        Err(back) => Err(back.1),
-    }
+    draft.seal(rows, &mut surface).map_err(|back| back.1)?;
+    Ok(extent_of(&surface))
 }
 
 // The extent of the surface that a run's table gives, or the table's first fault.
 pub fn survey_run(input: &[u8]) -> Result<Extent, SurfaceFault>
     ensures { MatchResult result (Surveyed input.now) (SurveyRefused input.now) }
 {
-    let mut rows = [Row {
-        place: 0,
-        ordinates: [0; 8],
-    }; 64];
+    let mut rows = [Row::BLANK; 64];
     let draft = read_run(input, &mut rows)?;
     sealed_extent(draft, &rows)
 }

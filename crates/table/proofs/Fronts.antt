@@ -1,6 +1,7 @@
 -- Which field stands at the front of a list, or that none does, from what the loops over its bytes found.
-use Rattle.std.proofs.Common.{◌≡◌, ℕ, ◌+◌, ◌<◌, ◌≤◌, List, [], ◌∷◌, ◌++◌, length, get_or, take, drop, Some, None, Option, sym, ap, ◌∙◌, subst, arith, length-append, take-append-drop, MatchOption}
+use Rattle.std.proofs.Common.{◌≡◌, ℕ, Bool, true, false, refl, ◌+◌, ◌<◌, ◌≤◌, List, [], ◌∷◌, ◌++◌, length, get_or, take, drop, Some, None, Option, sym, ap, ◌∙◌, subst, arith, length-append, take-append-drop, MatchOption}
 use Rattle.std.specs.List.{AllByRecursion}
+use Rattle.std.specs.Bool.{then_some}
 use Rattle.std.proofs.lemmas.List.{length-take-le, drop-drop}
 use Rattle.table.specs.Cells.{Cell, plain, quoted, written, Bare, Stops, Paired, ClosedAt, Ends, Stands, InFront, MalformedAt}
 use Rattle.table.proofs.Cuts.{ends_stop, ends_unquoted, bare_cut, paired_cut, paired_open, written_quoted, not_plain}
@@ -64,3 +65,8 @@ width_le {t} {xs} {ys} s = omega (arith, simp length-append at (ap length s.spli
 pub either_way : {X : Type 0} {P Q : Type 0} {R S : X → Type 0} (o : Option X) → MatchOption o P R → (P → Q) → ((x : X) → R x → S x) → MatchOption o Q S
 either_way None p f g = f p
 either_way (Some x) r f g = g x r
+
+-- what holds of a value that is given only where a test holds
+pub some_if : {X : Type 0} (P : Type 0) (R : X → Type 0) (b : Bool) (x : X) → (b ≡ true → R x) → ((b ≡ true → ⊥) → P) → MatchOption (then_some b x) P R
+some_if P R b x holds fails =
+    elim b as (λ t. (t ≡ true → R x) → ((t ≡ true → ⊥) → P) → MatchOption (then_some t x) P R) [ true ↦ λ y n. y refl | false ↦ λ y n. n (λ e. cc) ] holds fails

@@ -4,7 +4,6 @@ use native.Mathlib.Nat.{pow-le-pow_right}
 use lib.IntN.{+ℤ_idl}
 use Rattle.std.proofs.lemmas.Int.{to_z_pos}
 use Rattle.std.specs.List.{AllByRecursion}
-use Rattle.std.proofs.ByRecursion.{All-get_or}
 use Rattle.std.proofs.lemmas.List.{length_push, length-take-le, take_more}
 use Rattle.table.proofs.Turns.{begins_with}
 use Rattle.table.specs.Numbers.{Digit, value, Numeral, Writes, unsigned, minus, Counts}
@@ -42,9 +41,6 @@ room bs i l few h =
     let less : 10 ^ length (take i bs) ≤ 10 ^ 18 = pow-le-pow_right (omega arith) short in
     omega (arith, value_lt (take i bs) h)
 
-pub no_digit : (bs : List ℕ) (i : ℕ) → i < length bs → (Digit (get_or bs i 0) → ⊥) → {most n : ℕ} → Numeral most bs n → ⊥
-no_digit bs i l other w = other (All-get_or Digit bs i 0 l w.digits)
-
 -- a minus is no digit
 pub minus_first : {most n : ℕ} {ds : List ℕ} → Numeral most (45 ∷ ds) n → ⊥
 minus_first w = omega (arith, w.digits.0.0)
@@ -60,18 +56,6 @@ counts_unique a b = a.numeral.writes ∙ sym b.numeral.writes
 
 pub writes_minus : (bs : List ℕ) (n : ℕ) → 0 < length bs → get_or bs 0 0 ≡ 45 → Numeral 7 (take (length bs - 1) (drop 1 bs)) n → (v : ℤ) → v ≡ neg_ℤ (pos n) → Writes bs v
 writes_minus bs n l e w v is = minus (take (length bs - 1) (drop 1 bs)) n (begins_with 45 bs l e) w is
-
-pub none_minus : (bs : List ℕ) → 0 < length bs → get_or bs 0 0 ≡ 45 → ((n : ℕ) → Numeral 7 (take (length bs - 1) (drop 1 bs)) n → ⊥) → (v : ℤ) → Writes bs v → ⊥
-none_minus bs l e none v (unsigned n w is) = minus_first (subst (λ l. Numeral 7 l n) (begins_with 45 bs l e) w)
-none_minus bs l e none v (minus ds n s w is) =
-    let t = begins_with 45 bs l e in
-    let same : ds ≡ take (length bs - 1) (drop 1 bs) = cc in
-    none n (subst (λ l. Numeral 7 l n) same w)
-
-pub none_unsigned : (bs : List ℕ) → (0 < length bs → get_or bs 0 0 ≡ 45 → ⊥) → ((n : ℕ) → Numeral 7 bs n → ⊥) → (v : ℤ) → Writes bs v → ⊥
-none_unsigned bs other none v (unsigned n w is) = none n w
-none_unsigned bs other none v (minus ds n s w is) =
-    other (subst (λ l. 0 < length l) (sym s) (omega arith)) (ap (λ l. get_or l 0 0) s)
 
 -- seven digits, and their negative, in 32 bits
 pub fits_pos : (n : ℕ) → n < 10 ^ 7 → SFits w32 (pos n)

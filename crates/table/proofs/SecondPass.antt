@@ -30,10 +30,6 @@ pub pass_same : (t : Cell) (ts : List Cell) {xs ys : List ℕ} {at rec fld : ℕ
 pass_same t [] l k = (stands_unique _ t k.stands (line_one t l)).0
 pass_same t (u ∷ us) l k = (stands_unique _ t k.stands (line_more t u us l).stands).0
 
--- after the last field of a record follows what follows the record
-pub pass_last : (t : Cell) {xs ys : List ℕ} {at rec fld : ℕ} {e : FieldEnd} → Line (t ∷ []) (drop at xs) ys → FieldRead xs at rec fld e → drop e.next xs ≡ ys
-pass_last t l k = (stands_unique _ t k.stands (line_one t l)).1
-
 -- after any other field follows a comma, and then a record of the other fields
 pub record Passed (us : List Cell) (xs ys : List ℕ) (e : FieldEnd) : Type 0 where
   pub inside : e.next < length xs

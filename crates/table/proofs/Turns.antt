@@ -1,15 +1,9 @@
 -- What one turn of the loops over a field's bytes keeps, and what its first bytes tell.
 use Rattle.std.proofs.Common.{◌≡◌, ℕ, ◌+◌, ◌-◌, ◌<◌, List, [], ◌∷◌, ◌++◌, length, get_or, take, drop, sym, ap, ◌∙◌, subst, ⊎_elim, append_assoc, arith}
-use Rattle.std.proofs.lemmas.List.{take_more, drop_more, drop_all, nil_from_length}
+use Rattle.std.proofs.lemmas.List.{take_more, drop_more, drop_all}
 use Rattle.std.proofs.lemmas.Slice.{first_rest}
 use Rattle.std.proofs.lemmas.Bool.{cases_lt}
-use Rattle.table.specs.Cells.{Bare, Stops, Paired, empty, pair, other, ClosedAt, Ends, at_comma, at_close, at_end, at_line}
-
-pub stops_here : (xs : List ℕ) (i : ℕ) → i < length xs → (Bare (get_or xs i 0) → ⊥) → Stops (drop i xs)
-stops_here xs i l not-bare b ys e bare =
-    let d = drop_more xs i 0 l in
-    let same : b ≡ get_or xs i 0 = cc in
-    not-bare (subst Bare same bare)
+use Rattle.table.specs.Cells.{Paired, empty, pair, other, ClosedAt, Ends, at_comma, at_close, at_line}
 
 paired_append : {bs cs : List ℕ} → Paired bs → Paired cs → Paired (bs ++ cs)
 paired_append empty q = q
@@ -37,9 +31,6 @@ closed_here xs i l p is single = record {
       (λ past. let d = drop_all (i + 1) xs past in let z : ◌≡◌ {A = ℕ} 0 1 = cc in omega arith)
       (cases_lt (i + 1) (length xs));
 }
-
-pub ends_empty : (xs : List ℕ) → length xs ≡ 0 → Ends xs
-ends_empty xs e = at_close (at_end (nil_from_length xs e))
 
 pub ends_comma : (xs : List ℕ) → 0 < length xs → get_or xs 0 0 ≡ 44 → Ends xs
 ends_comma [] l e = absurd (omega arith)

@@ -1,6 +1,7 @@
 -- A record of a table by the format's rules: sound fields with commas between them, up to CR LF or the end.
 use Rattle.std.specs.Prelude.{◌≡◌, ℕ, ◌+◌, ◌<◌, ◌≤◌, List, [], ◌∷◌, ◌++◌, length, drop}
 use Rattle.std.specs.List.{AllByRecursion}
+use Rattle.table.specs.declared.cursor.Cursor.{Cursor}
 use Rattle.table.specs.declared.fault.TextFault.{TextFault}
 use Rattle.table.specs.declared.fault.TextFault.TheVariants.{Malformed, TooLong}
 use Rattle.table.specs.declared.field.FieldEnd.{FieldEnd}
@@ -10,6 +11,10 @@ use Rattle.table.specs.Cells.{Cell, cell_of, written, Sound, Closes, Stands, Mal
 -- the most bytes that a table may have
 abbrev pub most_bytes : ℕ
 most_bytes = 65536
+
+-- what the input has from the cursor on
+abbrev pub text_at : Cursor → List ℕ
+text_at c = drop c.at c.input.now
 
 -- the bytes of a record: its fields with a comma between each two
 abbrev pub joined : List Cell → List ℕ

@@ -2,14 +2,14 @@
 ghost use Rattle.std.specs.Prelude.{◌≡◌, ◌<◌, ◌≤◌, length, MatchResult};
 ghost use Rattle.table.specs.Lines.{most_bytes, LineRead, LineRefused};
 
+use crate::cursor::Cursor;
 use crate::fault::TextFault;
-use crate::field::read_field;
 
 // The most bytes that a table may have.
 pub const LONGEST: usize = 65_536;
 
 // A record that was read.
-#[derive(Clone, Copy)]
+#[derive(Clone, Copy, PartialEq, Eq, Debug)]
 pub struct LineEnd {
     pub fields: usize,
     // Where the record's text ends.
@@ -29,21 +29,24 @@ pub fn check_length(input: &[u8]) -> Result<(), TextFault>
     }
 }
 
-// Reads the record that begins at byte `at`, or says which of its fields is the first that does not stand.
-pub fn read_line(input: &[u8], at: usize, record: u32) -> Result<LineEnd, TextFault>
-    ensures { MatchResult result (λ e. LineRead input.now at e) (λ e. LineRefused input.now at «record» e) }
-{
-    check_length(input)?;
-    let mut fields = 1;
-    let mut end = read_field(input, at, record, fields)?.next;
-    while end < input.len() && input[end] == b',' {
-        fields += 1;
-        end = read_field(input, end + 1, record, fields)?.next;
+impl Cursor<'_> {
+    // The record that begins here; a fault at the first of its fields that does not stand.
+    // A loop over bytes, since a field begins where the one before was seen to end.
+    pub fn line(self) -> Result<LineEnd, TextFault>
+        ensures { MatchResult result (λ e. LineRead self.entry.input.now self.entry.at e) (λ e. LineRefused self.entry.input.now self.entry.at self.entry.«record» e) }
+    {
+        check_length(self.input)?;
+        let mut fields = 1;
+        let mut end = self.field(fields)?.next;
+        while end < self.input.len() && self.input[end] == b',' {
+            fields += 1;
+            end = self.moved_to(end + 1).field(fields)?.next;
+        }
+        let next = if end < self.input.len() { end + 2 } else { end };
+        Ok(LineEnd {
+            fields: fields as usize,
+            end,
+            next,
+        })
     }
-    let next = if end < input.len() { end + 2 } else { end };
-    Ok(LineEnd {
-        fields: fields as usize,
-        end,
-        next,
-    })
 }

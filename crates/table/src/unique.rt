@@ -3,15 +3,11 @@ ghost use Rattle.table.specs.Tables.{ReadingRejoins};
 ghost use Rattle.table.specs.Unique.{Unique};
 
 // Holds nothing but its promise: no bytes can be read in two ways.
-pub fn reading_is_unique() -> u8
+pub fn reading_is_unique()
     ensures { Unique }
-{
-    0
-}
+{}
 
 // Holds nothing but its promise: a table that was read to its end is its records, rejoined by the format's rules.
-pub fn reading_rejoins() -> u8
+pub fn reading_rejoins()
     ensures { ReadingRejoins }
-{
-    0
-}
+{}

@@ -8,6 +8,7 @@ use survey::text::sheet_text;
 const TABLES: u32 = 120;
 
 // Prints the answer to one stored table under its number.
+// As in `rated_trials`: what both could share would be a public function that promises nothing.
 fn try_table(rt: &HostRuntime, number: u32) -> anyhow::Result<()> {
     let path = format!(in rt.alloc(); "sheet/{number:04}.csv")?;
     let input = fs::read(rt, path.as_str())?;
@@ -17,13 +18,9 @@ fn try_table(rt: &HostRuntime, number: u32) -> anyhow::Result<()> {
     Ok(())
 }
 
-fn try_tables(rt: &HostRuntime) -> anyhow::Result<()> {
+fn main(rt: HostRuntime) -> anyhow::Result<()> {
     for number in 1..=TABLES {
-        try_table(rt, number)?;
+        try_table(&rt, number)?;
     }
     Ok(())
-}
-
-fn main(rt: HostRuntime) -> anyhow::Result<()> {
-    try_tables(&rt)
 }

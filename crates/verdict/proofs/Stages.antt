@@ -9,11 +9,12 @@ use Rattle.table.specs.Cells.{Cell}
 use Rattle.table.specs.Lines.{Line}
 use Rattle.table.specs.Tables.{ReadUpTo}
 use Rattle.table.proofs.Chains.{line_unique}
-use Rattle.readings.specs.Numbers.{Written}
+use Rattle.table.specs.Numbers.{Writes}
+use Rattle.records.specs.Numbers.{Written}
 use Rattle.readings.specs.Runs.{Headed, FilledBy, Reached, RowStops, HeaderStops}
 use Rattle.readings.specs.Runs as runs
 use Rattle.verdict.proofs.Chains.{same_read, last_read, front}
-use Rattle.verdict.proofs.Numbers.{written_unique}
+use Rattle.records.proofs.Unique.{whole_one, written_unique}
 use Rattle.verdict.proofs.Records.{headed_unique, row_never}
 
 -- the same records fill the same rows
@@ -25,7 +26,7 @@ same_filled {m} (runs.next {rs} {rows = r} cs z vs q w c j) (runs.next {rs = ss}
     let same = same_from_push rs ss cs ds e in
     let before : r ≡ r' = same_filled q q' same.0 in
     let lists = same.0 in
-    let numbers = written_unique cs (z ∷ vs) (y ∷ us) w (subst (λ (d : List Cell). Written d (y ∷ us)) (sym same.1) w') in
+    let numbers = written_unique Writes whole_one cs (z ∷ vs) (y ∷ us) w (subst (λ (d : List Cell). Written Writes d (y ∷ us)) (sym same.1) w') in
     let place : z ≡ y = cc in
     let others : vs ≡ us = cc in
     cc
@@ -44,7 +45,7 @@ record Earlier (m : ℕ) (input : List ℕ) (old : List Row) (h : List Cell) (k 
   ordinates : List ℤ
   some : 0 < length rest
   line : Line cells rest after
-  written : Written cells (place ∷ ordinates)
+  written : Written Writes cells (place ∷ ordinates)
   count : length ordinates ≡ m
   lawful : station_judged m k rows place ordinates ≡ Ok tt
 

@@ -1,7 +1,7 @@
 // Rates the trial line at every width, with equal, one-sided and crossing edge factors.
 #![tactic(auto)]
 
-use crate::rows::{print_drawing, print_figure};
+use crate::rows::{Asked, Trial, print_row};
 use edge::edge::Edge;
 use edge::station::Station;
 use model::lanes::Carriageway;
@@ -27,53 +27,55 @@ static LINE: [Station; 3] = [
     },
 ];
 
-// The rows of a carriageway over a surface with these edge factors: figures, and drawings where they are asked for.
+// Figures of both kinds.
+const FIGURES: [(Asked, LoadKind); 2] = [
+    (Asked::Figure, LoadKind::Characteristic),
+    (Asked::Figure, LoadKind::Frequent),
+];
+
+// Figures and drawings of both kinds.
+const FIGURES_AND_DRAWINGS: [(Asked, LoadKind); 4] = [
+    (Asked::Figure, LoadKind::Characteristic),
+    (Asked::Figure, LoadKind::Frequent),
+    (Asked::Drawing, LoadKind::Characteristic),
+    (Asked::Drawing, LoadKind::Frequent),
+];
+
+// The rows of a carriageway over a surface with these edge factors.
 fn try_kerbs<S: Surface + Drop>(
     rt: &HostRuntime,
-    f: i32,
-    g: i32,
-    kerbs: Carriageway,
+    trial: Trial,
     surface: S,
-    drawn: bool,
+    calls: &[(Asked, LoadKind)],
 ) -> anyhow::Result<()> {
-    match Job::open(0, surface, kerbs) {
-        Ok(job) => {
-            print_figure(rt, f, g, kerbs, &job, LoadKind::Characteristic)?;
-            print_figure(rt, f, g, kerbs, &job, LoadKind::Frequent)?;
-            if drawn {
-                print_drawing(rt, f, g, kerbs, &job, LoadKind::Characteristic)?;
-                print_drawing(rt, f, g, kerbs, &job, LoadKind::Frequent)?;
-            }
-            Ok(())
-        }
-        Err(_) => Ok(println!(rt; "refused")?),
+    let Ok(job) = Job::open(0, surface, trial.kerbs) else {
+        return Ok(println!(rt; "refused")?);
+    };
+    for (asked, kind) in calls {
+        print_row(rt, trial, &job, *asked, *kind)?;
     }
+    Ok(())
 }
 
 // The rows of a carriageway over the trial line.
-fn try_line(
-    rt: &HostRuntime,
-    f: i32,
-    g: i32,
-    kerbs: Carriageway,
-    drawn: bool,
-) -> anyhow::Result<()> {
+fn try_line(rt: &HostRuntime, trial: Trial, calls: &[(Asked, LoadKind)]) -> anyhow::Result<()> {
     let mut surface = Edge::level();
-    match surface.make(300, f, g, &LINE) {
-        Ok(()) => try_kerbs(rt, f, g, kerbs, surface, drawn),
+    match surface.make(300, trial.f, trial.g, &LINE) {
+        Ok(()) => try_kerbs(rt, trial, surface, calls),
         Err(_) => Ok(println!(rt; "refused")?),
     }
 }
 
 // The rows of one width: at the left edge figure and drawing, in the middle figure.
 fn try_width(rt: &HostRuntime, f: i32, g: i32, width: u32) -> anyhow::Result<()> {
-    let left = Carriageway { first: 0, width };
-    try_line(rt, f, g, left, true)?;
+    let kerbs = Carriageway { first: 0, width };
+    try_line(rt, Trial { f, g, kerbs }, &FIGURES_AND_DRAWINGS)?;
     let first = 150u32.saturating_sub(width);
     if first == 0 {
         return Ok(());
     }
-    try_line(rt, f, g, Carriageway { first, width }, false)
+    let kerbs = Carriageway { first, width };
+    try_line(rt, Trial { f, g, kerbs }, &FIGURES)
 }
 
 fn try_widths(rt: &HostRuntime, f: i32, g: i32) -> anyhow::Result<()> {
@@ -83,15 +85,12 @@ fn try_widths(rt: &HostRuntime, f: i32, g: i32) -> anyhow::Result<()> {
     Ok(())
 }
 
-fn try_factors(rt: &HostRuntime) -> anyhow::Result<()> {
+fn main(rt: HostRuntime) -> anyhow::Result<()> {
     println!(rt;
         "f,g,a,w,lanes,lane_slices,call,kind,figure,lane1,lane2,lane3,others,place1,place2,place3"
     )?;
-    try_widths(rt, 1000, 1000)?;
-    try_widths(rt, 0, 1000)?;
-    try_widths(rt, -500, 1500)
-}
-
-fn main(rt: HostRuntime) -> anyhow::Result<()> {
-    try_factors(&rt)
+    for (f, g) in [(1000, 1000), (0, 1000), (-500, 1500)] {
+        try_widths(&rt, f, g)?;
+    }
+    Ok(())
 }

@@ -1,7 +1,7 @@
 -- The two kinds of worth: an effect alone, and an effect and then a kerb count.
 use Rattle.std.specs.Prelude.{◌||◌, ◌&&◌, ℕ, ◌+◌, eqb, ltb}
 use Rattle.placing.specs.Kind.{Kind}
-use Rattle.worths.specs.declared.Kerbed.{Kerbed}
+use Rattle.worths.specs.declared.kerbed.Kerbed.{Kerbed}
 
 abbrev pub effect_kind : Kind ℕ
 effect_kind = record { zero = 0; sum = ◌+◌; below = ltb; weight = λ x. x }

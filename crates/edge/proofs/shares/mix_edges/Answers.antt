@@ -1,50 +1,58 @@
 use Rattle.std.proofs.Common.{◌≡◌, ℕ, ◌+◌, ◌-◌, ◌*◌, ◌<◌, ◌≤◌, ℤ, pos, ◌+ℤ◌, ◌*ℤ◌, nat_abs, ap, ◌∙◌, arith, w32, w64, to_z, of_z}
 use borrow.Author.Differences.{ints}
-use Rattle.std.specs.Int.{int_div_euclid}
-use Rattle.edge.specs.Edges.{shares_within}
-use Rattle.surface.proofs.Quotients.{times_within}
+use Rattle.std.proofs.lemmas.Int.{of_z-to_z}
+use Rattle.edge.specs.Edges.{edge_mix, shares_within, scaled_within, edge_mix_within}
+use Rattle.surface.proofs.Quotients.{times_within, product_is}
 use Rattle.edge.proofs.shares.mix_edges.Goals as goal
 
--- what the two shares come to
-module _ (f g l r : ℤ) (n j : ℕ) (h : j < n) (few : n ≤ 300) (hf : nat_abs f ≤ 2000) (hg : nat_abs g ≤ 2000)
-    (el : l ≡ to_z w32 (of_z w32 f) *ℤ pos (2 * n - 2 * j - 1)) (er : r ≡ to_z w32 (of_z w32 g) *ℤ pos (2 * j + 1)) where
-  left_is : l ≡ f *ℤ pos (2 * n - 2 * j - 1)
-  left_is = let e : to_z w32 (of_z w32 f) ≡ f = omega (arith, ints) in simp e at el
-
-  right_is : r ≡ g *ℤ pos (2 * j + 1)
-  right_is = let e : to_z w32 (of_z w32 g) ≡ g = omega (arith, ints) in simp e at er
-
-  small : (nat_abs l ≤ 2000000) × (nat_abs r ≤ 2000000)
-  small =
-      let a = times_within f (2 * n - 2 * j - 1) 2000 hf in
-      let b = times_within g (2 * j + 1) 2000 hg in
-      (omega (arith, ap nat_abs left_is), omega (arith, ap nat_abs right_is))
-
-  sum_is : to_z w64 (of_z w64 (to_z w64 (of_z w64 l) +ℤ to_z w64 (of_z w64 r))) ≡ f *ℤ pos (2 * n - 2 * j - 1) +ℤ g *ℤ pos (2 * j + 1)
-  sum_is =
-      let s = small in
-      let e : to_z w64 (of_z w64 (to_z w64 (of_z w64 l) +ℤ to_z w64 (of_z w64 r))) ≡ l +ℤ r = omega (arith, ints) in
-      e ∙ ap (λ (z : ℤ). z +ℤ r) left_is ∙ ap (λ (z : ℤ). f *ℤ pos (2 * n - 2 * j - 1) +ℤ z) right_is
+-- the two shares together, as the code has them
+shared : (f g l r : ℤ) (n j : ℕ) → j < n → n ≤ 300 → nat_abs f ≤ 2000 → nat_abs g ≤ 2000 → l ≡ to_z w32 (of_z w32 f) → r ≡ to_z w32 (of_z w32 g) → to_z w64 (of_z w64 (to_z w64 (of_z w64 (to_z w64 (of_z w64 l) *ℤ to_z w64 (2 * n - 2 * j - 1))) +ℤ to_z w64 (of_z w64 (to_z w64 (of_z w64 r) *ℤ to_z w64 (2 * j + 1))))) ≡ f *ℤ pos (2 * n - 2 * j - 1) +ℤ g *ℤ pos (2 * j + 1)
+shared f g l r n j h few hf hg el er =
+    let a = product_is f l (2 * n - 2 * j - 1) (omega arith) (omega arith) el in
+    let b = product_is g r (2 * j + 1) (omega arith) (omega arith) er in
+    let w = shares_within f g n j h hf hg in
+    simp (a, b) (omega (arith, ints))
 
 pub overflow_add-from_left : goal.overflow_add-from_left
 overflow_add-from_left c =
-    let p = c.requires in
-    let s = small c.args.f c.args.g c.share-from_left.result c.share-from_right.result c.args.n c.args.j p.sized.0 p.sized.1 p.within.1.0 p.within.1.1 c.share-from_left.ensures c.share-from_right.ensures in
-    omega (arith, ints)
+    let x = 2 * c.args.n - 2 * c.args.j - 1 in
+    let y = 2 * c.args.j + 1 in
+    let l = product_is c.args.f c.from.result x (omega arith) (omega arith) c.from.ensures in
+    let r = product_is c.args.g c.from-2.result y (omega arith) (omega arith) c.from-2.ensures in
+    let a = times_within c.args.f x 2000 c.requires.within.1.0 in
+    let b = times_within c.args.g y 2000 c.requires.within.1.1 in
+    simp (l, r) (omega (arith, ints))
 
-pub scaled_down-requires : goal.scaled_down-requires
-scaled_down-requires c =
-    let p = c.requires in
-    let e = sum_is c.args.f c.args.g c.share-from_left.result c.share-from_right.result c.args.n c.args.j p.sized.0 p.sized.1 p.within.1.0 p.within.1.1 c.share-from_left.ensures c.share-from_right.ensures in
-    let v : to_z w32 (of_z w32 c.args.v) ≡ c.args.v = omega (arith, ints) in
-    let w = shares_within c.args.f c.args.g c.args.n c.args.j p.sized.0 p.within.1.0 p.within.1.1 in
-    (omega (arith, ap nat_abs v), (omega (arith, ap nat_abs e), (omega arith, omega arith)))
+pub overflow_mul-from : goal.overflow_mul-from
+overflow_mul-from c =
+    let x = shared c.args.f c.args.g c.from.result c.from-2.result c.args.n c.args.j (omega arith) (omega arith) c.requires.within.1.0 c.requires.within.1.1 c.from.ensures c.from-2.ensures in
+    let v : to_z w64 (of_z w64 c.from-3.result) ≡ c.args.v = omega (arith, ints) in
+    let w = shares_within c.args.f c.args.g c.args.n c.args.j (omega arith) c.requires.within.1.0 c.requires.within.1.1 in
+    let p = scaled_within c.args.v (c.args.f *ℤ pos (2 * c.args.n - 2 * c.args.j - 1) +ℤ c.args.g *ℤ pos (2 * c.args.j + 1)) (2000 * c.args.n) (omega arith) w in
+    simp (x, v) (omega (arith, ints))
+
+pub div_euclid-requires-clause-no_overflow : goal.div_euclid-requires-clause-no_overflow
+div_euclid-requires-clause-no_overflow c = λ h k. omega (arith, h, of_z-to_z w64 (2000 * c.args.n) (omega arith))
+
+-- the quotient, as the definition has it
+is : (c : goal.After-div_euclid) → c.div_euclid.result ≡ edge_mix c.args.v c.args.f c.args.g c.args.n c.args.j
+is c =
+    let z : ℤ = c.args.f *ℤ pos (2 * c.args.n - 2 * c.args.j - 1) +ℤ c.args.g *ℤ pos (2 * c.args.j + 1) in
+    let x = shared c.args.f c.args.g c.from.result c.from-2.result c.args.n c.args.j (omega arith) (omega arith) c.requires.within.1.0 c.requires.within.1.1 c.from.ensures c.from-2.ensures in
+    let v : to_z w64 (of_z w64 c.from-3.result) ≡ c.args.v = omega (arith, ints) in
+    let w = shares_within c.args.f c.args.g c.args.n c.args.j (omega arith) c.requires.within.1.0 c.requires.within.1.1 in
+    let p = scaled_within c.args.v z (2000 * c.args.n) (omega arith) w in
+    let d : to_z w64 (2000 * c.args.n) ≡ pos (2000 * c.args.n) = omega (arith, ints) in
+    let m : to_z w64 (of_z w64 (c.args.v *ℤ z)) ≡ c.args.v *ℤ z = omega (arith, ints) in
+    simp (x, v, m, d) at c.div_euclid.ensures
+
+pub overflow_cast-result : goal.overflow_cast-result
+overflow_cast-result c =
+    let h = edge_mix_within c.args.v c.args.f c.args.g c.args.n c.args.j (omega arith) (omega arith) c.requires.within.1.0 c.requires.within.1.1 in
+    omega (arith, ints, ap nat_abs (is c))
 
 pub returns : goal.returns
 returns c =
-    let p = c.requires in
-    let e = sum_is c.args.f c.args.g c.share-from_left.result c.share-from_right.result c.args.n c.args.j p.sized.0 p.sized.1 p.within.1.0 p.within.1.1 c.share-from_left.ensures c.share-from_right.ensures in
-    let v : to_z w32 (of_z w32 c.args.v) ≡ c.args.v = omega (arith, ints) in
-    let r : to_z w32 (of_z w32 c.scaled_down.result) ≡ c.scaled_down.result = omega (arith, ints) in
-    let q = simp v at c.scaled_down.ensures in
-    r ∙ q ∙ ap (λ (z : ℤ). int_div_euclid (c.args.v *ℤ z) (pos (2000 * c.args.n))) e
+    let h = edge_mix_within c.args.v c.args.f c.args.g c.args.n c.args.j (omega arith) (omega arith) c.requires.within.1.0 c.requires.within.1.1 in
+    let r : to_z w32 (of_z w32 (to_z w64 (of_z w64 c.div_euclid.result))) ≡ c.div_euclid.result = omega (arith, ints, ap nat_abs (is c)) in
+    r ∙ is c

@@ -7,6 +7,5 @@ use Rattle.loaded.proofs.making.running_sums.Given as goal
 abbrev pub invariant-loop-i : goal.invariant-loop-i
 invariant-loop-i l =
     (length l.sums ≡ 301)
-    × (l.sum ≡ total l.i (λ j. get_or l.areas j 0))
-    × (l.sum ≤ l.i * most_area)
+    × (get_or l.sums l.i 0 ≤ l.i * most_area)
     × ((k : ℕ) → k ≤ l.i → get_or l.sums k 0 ≡ total k (λ j. get_or l.areas j 0))

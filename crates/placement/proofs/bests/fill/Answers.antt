@@ -8,6 +8,6 @@ pub loop-i-preserved : goal.loop-i-preserved
 loop-i-preserved g c =
     let R = g.P.Parts.road c.args.parts.now in
     let n = c.loop-i.i - 1 in (
-      one_entry g.W.Worth.kind R c.loop-i.bests n c.loop-i.i _ (omega arith) (omega arith) c.loop-i.invariant.0 c.entry-best.ensures,
+      one_entry g.W.Worth.kind R c.loop-i.bests n c.loop-i.i _ (omega arith) (omega arith) c.loop-i.invariant.0 c.best-best.ensures,
       drop-set-lt (24 * (R.slices + 1)) c.loop-i.bests n _ (omega arith) ∙ c.loop-i.invariant.1,
     )

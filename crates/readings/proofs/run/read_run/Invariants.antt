@@ -1,9 +1,10 @@
+-- What is known before each row.
 use Rattle.std.proofs.Common.{◌≡◌, ◌-◌, length}
 use Rattle.readings.proofs.Underway.{Underway}
 use Rattle.readings.proofs.run.read_run.Given as goal
 
-abbrev pub invariant-loop-at : goal.invariant-loop-at
-invariant-loop-at l = (length l.filled ≡ 64) × Underway l.input l.rows l.filled l.header.fields l.at l.record l.draft
+abbrev pub invariant-loop-here : goal.invariant-loop-here
+invariant-loop-here l = (length l.filled ≡ 64) × (l.here.input.now ≡ l.input) × Underway l.input l.rows l.filled l.header.fields l.here.at l.here.record l.draft
 
-abbrev pub decreases-loop-at : goal.decreases-loop-at
-decreases-loop-at l = length l.input - l.at
+abbrev pub decreases-loop-here : goal.decreases-loop-here
+decreases-loop-here l = length l.input - l.here.at

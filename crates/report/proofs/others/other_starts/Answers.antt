@@ -4,7 +4,7 @@ use Rattle.report.specs.Shown.{BeginsOther, Listed, count_of}
 use Rattle.report.proofs.Counts.{begins_at, count_more, count_none, count_same}
 use Rattle.report.proofs.Listing.{listed_more, listed_none, listed_same}
 use Rattle.report.proofs.others.other_starts.Goals as goal
-use Rattle.report.proofs.others.other_starts.Goals.{then-begins+in_ok-push, else-begins, then-owners-j-eq-OTHER, else-owners-j-eq-OTHER}
+use Rattle.report.proofs.others.other_starts.Goals.{then-begins+in_ok-push, else-begins, then-number-eq-OTHER, else-number-eq-OTHER}
 
 pub returns-in_err-push : goal.returns-in_err-push
 returns-in_err-push c = IfOk-from_err c.from_residual.result _ c.from_residual.ensures.0
@@ -16,11 +16,11 @@ pub loop-j-preserved : goal.loop-j-preserved
 loop-j-preserved c =
     let owners = c.args.owners.now in
     let j = c.loop-j.j in
-    let before = c.if-owners-j-eq-OTHER.before in
+    let before = c.if-number-eq-OTHER.before in
     let counted : (before ≡ count_of owners (j + 1) 4) × (before ≤ j + 1) =
-    elim c.if-owners-j-eq-OTHER.branch [
-      | then-owners-j-eq-OTHER w ↦ (let e = count_more owners j 4 w.if-owners-j-eq-OTHER.true in (omega (arith, w.before-is), omega (arith, w.before-is)))
-      | else-owners-j-eq-OTHER w ↦ (let e = count_same owners j 4 w.if-owners-j-eq-OTHER.false in (omega (arith, w.before-is), omega (arith, w.before-is)))
+    elim c.if-number-eq-OTHER.branch [
+      | then-number-eq-OTHER w ↦ (let e = count_more owners j 4 w.if-number-eq-OTHER.true in (omega (arith, w.before-is), omega (arith, w.before-is)))
+      | else-number-eq-OTHER w ↦ (let e = count_same owners j 4 w.if-number-eq-OTHER.false in (omega (arith, w.before-is), omega (arith, w.before-is)))
     ]
     in
     let listed : Listed (BeginsOther owners) (j + 1) (vec_items c.if-begins.starts) =

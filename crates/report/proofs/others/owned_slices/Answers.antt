@@ -1,15 +1,13 @@
-use Rattle.std.proofs.Common.{sym, arith}
-use Rattle.report.proofs.Counts.{count_more, count_none, count_same}
+-- The slices of the owner are counted along the list.
+use Rattle.std.proofs.Common.{◌≡◌, ap, sym, ◌∙◌, rules, arith}
+use Rattle.std.proofs.lemmas.List.{take_all}
+use Rattle.std.specs.Prelude.{◌==◌, count_by}
+use Rattle.report.proofs.Counts.{counted}
 use Rattle.report.proofs.others.owned_slices.Goals as goal
-use Rattle.report.proofs.others.owned_slices.Goals.{then-owners-i, else-owners-i}
 
-pub loop-i-preserved : goal.loop-i-preserved
-loop-i-preserved c =
+pub returns : goal.returns
+returns c =
     let owners = c.args.owners.now in
-    elim c.if-owners-i.branch [
-      | then-owners-i w ↦ (let e = count_more owners c.loop-i.i c.args.owner w.if-owners-i.true in (omega (arith, w.count-is), omega (arith, w.count-is)))
-      | else-owners-i w ↦ (let e = count_same owners c.loop-i.i c.args.owner w.if-owners-i.false in (omega (arith, w.count-is), omega (arith, w.count-is)))
-    ]
-
-pub loop-i-init : goal.loop-i-init
-loop-i-init c = (sym (count_none c.args.owners.now c.args.owner), omega arith)
+    let e : c.count.result ≡ count_by (λ x. x == c.args.owner) owners = search rules in
+    let long = c.told-owners in
+    e ∙ ap (count_by (λ x. x == c.args.owner)) (sym (take_all 300 owners (omega arith))) ∙ counted owners c.args.owner 300 (omega arith)

@@ -1,9 +1,15 @@
-use Rattle.std.proofs.Common.{◌≡◌, ℕ, arith}
-use Rattle.script.proofs.Surface.{edge_decided, edge_broken}
+-- Whether the first record stands, and then whether it says so.
+use Rattle.std.proofs.Common.{◌∙◌, sym}
+use Rattle.script.proofs.Surface.{edge_read, edge_unread}
 use Rattle.script.proofs.part.says_edge.Goals as goal
 
-pub returns-in-Ok : goal.returns-in-Ok
-returns-in-Ok c = edge_decided c.in-Ok.ensures c.word_is_edge.ensures
+pub returns-then-is_ok : goal.returns-then-is_ok
+returns-then-is_ok c =
+    let l = rw c.start-start.ensures at c.line.ensures in
+    let d = rw c.start-start.ensures at c.begins_with.ensures in
+    edge_read c.line.result (sym c.is_ok.ensures.value ∙ c.if-is_ok.true) l d
 
-pub returns-in-Err : goal.returns-in-Err
-returns-in-Err c = (λ h. let z : ◌≡◌ {A = ℕ} 0 1 = cc in absurd (omega arith), λ g. absurd (edge_broken c.in-Err.field-0 c.requires c.in-Err.ensures g))
+pub returns-else-is_ok : goal.returns-else-is_ok
+returns-else-is_ok c =
+    let l = rw c.start-start.ensures at c.line.ensures in
+    edge_unread c.line.result c.args.script.short c.if-is_ok.false c.is_ok.ensures.value l

@@ -16,4 +16,5 @@ returns-in_err-opened c =
 pub returns-in_err-calls : goal.returns-in_err-calls
 returns-in_err-calls c =
     let p = err_from_is_err_and c.from_residual-in_err-calls.result c.from_residual-in_err-calls.ensures.1 in
-    rw (p.1, p.2) (told_weaker _ _ (λ f st. tails.call _ _ _ _ _ _ f c.in_ok-turned.ensures.0 c.in_ok-opened.ensures.0 st) c.in_err-calls.field-0.0 c.in_err-calls.ensures)
+    let told = rw c.in_ok-opened.ensures.1 at c.in_err-calls.ensures in
+    rw (p.1, p.2) (told_weaker _ _ (λ f st. tails.call _ _ _ _ _ _ f c.in_ok-turned.ensures.0 c.in_ok-opened.ensures.0 st) c.in_err-calls.field-0.0 told)

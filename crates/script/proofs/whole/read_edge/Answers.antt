@@ -1,18 +1,23 @@
 use Rattle.std.proofs.lemmas.Result.{err_from_is_err_and}
 use Rattle.script.specs.Scripts as scripts
-use Rattle.script.proofs.Fronts.{front_lined, front_unlined}
 use Rattle.script.proofs.Telling.{told_weaker}
 use Rattle.script.proofs.whole.read_edge.Goals as goal
 
-pub returns-in_err-lined : goal.returns-in_err-lined
-returns-in_err-lined c =
+pub returns-in_err-surface : goal.returns-in_err-surface
+returns-in_err-surface c =
     let p = err_from_is_err_and c.from_residual.result c.from_residual.ensures.1 in
-    let end = c.surface_part-part.result.end in
-    rw (p.1, p.2) (told_weaker _ _ (λ f s. scripts.line end _ f c.surface_part-part.ensures.ends (front_unlined end c.args.input.now f s)) c.in_err-lined.field-0.0 c.in_err-lined.ensures)
+    let told = rw (c.preceding.ensures, c.surface_end-end.ensures.input.0) at c.in_err-surface.ensures in
+    rw (p.1, p.2) (told_weaker _ _ (λ f s. scripts.line _ _ f c.surface_end-end.ensures.ends s) c.in_err-surface.field-0.0 told)
 
 pub returns-in_err-tail : goal.returns-in_err-tail
 returns-in_err-tail c =
     let p = err_from_is_err_and c.from_residual-in_err-tail.result c.from_residual-in_err-tail.ensures.1 in
-    let end = c.surface_part-part.result.end in
-    let l = front_lined end c.args.input.now _ _ _ _ c.in_ok-lined.ensures in
-    rw (p.1, p.2) (told_weaker _ _ (λ f s. scripts.tail end _ _ _ _ _ f c.surface_part-part.ensures.ends l s) c.in_err-tail.field-0.0 c.in_err-tail.ensures)
+    let line = rw (c.preceding.ensures, c.surface_end-end.ensures.input.0) at c.in_ok-surface.ensures in
+    let told = rw c.surface_end-end.ensures.input.0 at c.in_err-tail.ensures in
+    rw (p.1, p.2) (told_weaker _ _ (λ f s. scripts.tail _ _ _ _ _ _ f c.surface_end-end.ensures.ends line s) c.in_err-tail.field-0.0 told)
+
+pub returns : goal.returns
+returns c =
+    let line = rw (c.preceding.ensures, c.surface_end-end.ensures.input.0) at c.in_ok-surface.ensures in
+    let told = rw c.surface_end-end.ensures.input.0 at c.in_ok-tail.ensures in
+    record { end = _; next = _; ends = c.surface_end-end.ensures.ends; line = line; tail = told }

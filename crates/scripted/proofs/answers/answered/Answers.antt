@@ -18,5 +18,5 @@ returns-in-Err g c =
     let s = g.S.Surface.shape c.args.surface in
     let o = c.args.tail.now.opening in
     let room : length c.as_slice-calls.result.now ≤ length c.args.answers.now = omega (arith, c.as_slice-calls.ensures.len) in
-    subst (λ (ks : List Call). RanSo s o.number o.kerbs ks (bytes_in string_bytes c.refusal_line.result) None) c.as_slice-calls.ensures.value
-    (run_refused string_bytes (λ d. d.number) (λ d. d.serial) s o.number o.kerbs c.as_slice-calls.result.now c.args.answers.now c.replay.new.answers room c.in-Err.fault c.report.result c.refusal_line.result c.in-Err.ensures c.report.ensures c.refusal_line.ensures)
+    subst (λ (ks : List Call). RanSo s o.number o.kerbs ks (bytes_in string_bytes c.line.result) None) c.as_slice-calls.ensures.value
+    (run_refused string_bytes (λ d. d.number) (λ d. d.serial) s o.number o.kerbs c.as_slice-calls.result.now c.args.answers.now c.replay.new.answers room c.in-Err.fault c.from.result c.line.result c.in-Err.ensures c.from.ensures c.line.ensures)

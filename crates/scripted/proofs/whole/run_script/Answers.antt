@@ -10,4 +10,4 @@ pub returns-in-Err : goal.returns-in-Err
 returns-in-Err c =
     let e = c.in-Err.ensures in
     let f = c.in-Err.fault in
-    unread_ran c.args.input.now (λ g. g ≡ Text f) (λ g is. subst (ScriptRefused c.args.input.now) (sym (is ∙ ap Text e.0)) (scripts.long e.1)) (Told (Text f)) _ _ refl c.unread.ensures
+    unread_ran c.args.input.now (λ g. g ≡ Text f) (λ g is. subst (ScriptRefused c.args.input.now) (sym (is ∙ ap Text e.0)) (scripts.long e.1)) (Told (Text f)) _ _ refl (rw c.into.ensures at c.unread.ensures)

@@ -9,6 +9,6 @@ use Rattle.scripted.proofs.whole.unread.Goals.{in-Told, in-Memory}
 pub returns : goal.returns
 returns c =
     elim c.match-fault.branch [
-      | in-Told w ↦ told_unread string_bytes c.args.fault w.in-Told.f w.report.result w.refusal_line-text.result c.match-fault.text w.in-Told.is w.report.ensures w.refusal_line-text.ensures w.text-is
+      | in-Told w ↦ told_unread string_bytes c.args.fault w.in-Told.f w.from.result w.line-text.result c.match-fault.text w.in-Told.is w.from.ensures w.line-text.ensures w.text-is
       | in-Memory w ↦ subst (λ t. Unread c.args.fault (bytes_in string_bytes t) None) (sym w.text-is) (scripts.unwritten c.args.fault)
     ]

@@ -1,7 +1,6 @@
 -- A turn passes one other byte or a pair of quotes, and stops at a quote that stands alone.
-use Rattle.std.proofs.Common.{subst, arith}
-use Rattle.std.proofs.lemmas.List.{take_all}
-use Rattle.table.specs.Cells.{Paired, empty}
+use Rattle.std.proofs.Common.{arith}
+use Rattle.table.specs.Cells.{empty}
 use Rattle.table.proofs.Turns.{paired_other, paired_pair, closed_here}
 use Rattle.table.proofs.field.closing_quote.Goals as goal
 use Rattle.table.proofs.field.closing_quote.Goals.{else-i-inner-via-then-i-inner+else-inner-i-eq-QUOTE, else-i-inner-via-else-i-inner}
@@ -24,6 +23,3 @@ returns-else-i-inner c =
       | else-i-inner-via-then-i-inner+else-inner-i-eq-QUOTE w ↦ w.if-inner-i-eq-QUOTE.false quote
       | else-i-inner-via-else-i-inner w ↦ omega (arith, w.if-i-inner.false)
     ])
-
-pub returns : goal.returns
-returns c = subst Paired (take_all c.loop-i.i c.args.inner.now c.loop-i-test.false) c.loop-i.invariant.0

@@ -1,24 +1,27 @@
-use Rattle.std.proofs.Common.{◌≡◌, ℕ, ◌+◌, ◌-◌, ◌<◌, get_or, ap, subst, arith}
-use Rattle.measured.specs.Mixes.{before_more, before_stops, before_all}
+use Rattle.std.proofs.Common.{◌≡◌, ◌-◌, ◌<◌, ltb, true, false, take, sym, arith, rules}
+use Rattle.std.proofs.lemmas.Bool.{ltb-true, ltb-false}
+use Rattle.std.proofs.lemmas.List.{length-take-le, get_or-take}
+use Rattle.std.proofs.lemmas.List.Sums.{prefix_len_is}
+use Rattle.std.proofs.lemmas.List.Sorted.{IsPartitionPoint-from_clause}
+use Rattle.std.specs.List.Sorted.{IsPartitionPoint}
+use Rattle.measured.proofs.Parted.{parted}
 use Rattle.measured.proofs.layout.Layout.paths_before.Goals as goal
 
-pub returns-then-self-i : goal.returns-then-self-i
-returns-then-self-i c =
+-- the paths below the result lie before the slice, and the others don't
+point : (c : goal.After-partition_point) → IsPartitionPoint (λ p. ltb p c.args.j ≡ true) (λ p. ltb p c.args.j ≡ false) (take c.args.self.now.count c.args.self.now.paths) c.partition_point.result
+point c =
     let s = c.args.self.now in
-    let e = before_stops s.count s.paths c.args.j c.loop-i.i c.loop-i-test.true (omega arith) c.if-self-i.true in
-    record { value = omega (arith, c.loop-i.invariant.0); few = omega arith; left = c.loop-i.invariant.1; right = λ _. c.if-self-i.true }
-
-pub loop-i-preserved : goal.loop-i-preserved
-loop-i-preserved c =
-    let s = c.args.self.now in
-    let e = before_more s.count s.paths c.args.j c.loop-i.i c.loop-i-test.true (omega arith) c.if-self-i.false in
-    let p : get_or s.paths (c.loop-i.i + 1 - 1) 0 ≡ get_or s.paths c.loop-i.i 0 = ap (λ n. get_or s.paths n 0) (omega arith) in
-    (omega (arith, c.loop-i.invariant.0), λ _. omega arith)
+    IsPartitionPoint-from_clause (λ p. ltb p c.args.j) (take s.count s.paths) c.partition_point.result c.partition_point.ensures.partitioned (parted s.slices s.count s.paths s.ok c.args.j) (λ a r f k. search rules)
 
 pub returns : goal.returns
 returns c =
     let s = c.args.self.now in
-    let i = c.loop-i.i in
-    let k : i ≡ s.count = omega arith in
-    let e = before_all s.count s.paths c.args.j i (omega arith) in
-    record { value = omega (arith, c.loop-i.invariant.0); few = omega arith; left = subst (λ (n : ℕ). 0 < n → get_or s.paths (n - 1) 0 < c.args.j) k c.loop-i.invariant.1; right = λ h. omega arith }
+    let long = length-take-le s.count s.paths s.ok.0.4 in
+    let n = c.partition_point.result in
+    let p = point c in
+    record {
+      value = sym (prefix_len_is (λ p. ltb p c.args.j) (take s.count s.paths) n 0 (omega arith) (λ k h. p.0 k 0 (omega arith) h) (λ h. p.1 n 0 (omega arith) h));
+      few = omega arith;
+      left = λ h. let low : n - 1 < s.count = omega arith in simp get_or-take at (ltb-true _ _ (p.0 (n - 1) 0 (omega arith) (omega arith)));
+      right = λ h. simp get_or-take at (ltb-false _ _ (p.1 n 0 (omega arith) (omega arith)));
+    }

@@ -1,0 +1,6 @@
+use Rattle.std.proofs.Common.{rules}
+use Rattle.script.proofs.Splits.{split_says, both_ways}
+use Rattle.script.proofs.part.begins_with.Goals as goal
+
+pub returns : goal.returns
+returns c = λ cs ys l. both_ways c.read_first.result c.is_ok_and.ensures (c.read_first.ensures.split cs ys l) (λ f told s. split_says s (search rules)) (λ e told none. absurd none)
