@@ -20,7 +20,7 @@ pub const AMPLE: Lengths = Lengths {
     owners: 300,
 };
 
-// A call by its arguments: duties by job number and serial, lists by their lengths.
+// A call by its arguments: duties by job number and serial, lists by their lengths, as the rules feed the card.
 #[derive(Clone, Copy, PartialEq, Eq, Debug)]
 pub enum Call {
     Kerbs(Carriageway),

@@ -12,7 +12,7 @@ use model::tandems::Tandem;
 use model::weights::{Factors, LoadKind};
 use worths::Worth;
 
-// Fills the entries, writes the winner's owners, and answers what the winner is worth.
+// Fills the entries, writes the winner's owners, and answers what the winner is worth. Owners are numbers, as the rules have them.
 pub fn place_listed<'a, W: Worth + Copy>(
     kerbs: Carriageway,
     kind: LoadKind,

@@ -17,7 +17,7 @@ use model::weights::{Factors, LoadKind};
 use placement::lanes::LaneSet;
 use placement::parts::OWNERS;
 
-// The area of all slices before each.
+// The area of all slices before each, in an array of fixed size, since a placement takes no memory.
 fn running_sums(areas: &[u64], slices: usize) -> [u64; 301]
     requires few { slices ≤ 300 }
     requires long { slices ≤ length areas.now }

@@ -11,7 +11,7 @@ use crate::loads::LoadedCarriageway;
 use placement::choice::place;
 use worths::{Kerbed, Worth};
 
-// Fills the entries, writes the winner's owners, and answers what the winner is worth.
+// Fills the entries, writes the winner's owners, and answers what the winner is worth. Owners are numbers, as the rules have them.
 pub fn place_loads<W: Worth + Copy>(
     loads: &LoadedCarriageway,
     bests: &mut [Option<W>],
@@ -41,7 +41,7 @@ pub fn place_figure(loads: &LoadedCarriageway, bests: &mut [Option<u64>], owners
     place_loads::<u64>(loads, bests, owners)
 }
 
-// The placement of a drawing, by the rounded effect and then the kerb count: the other instance, which makes no mirrored promise.
+// The placement of a drawing, by the rounded effect and then the kerb count: the instance in the drawing's words, beside that of a figure.
 pub fn place_drawing(
     loads: &LoadedCarriageway,
     bests: &mut [Option<Kerbed>],

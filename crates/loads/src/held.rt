@@ -11,7 +11,7 @@ use model::lanes::Carriageway;
 use surface::Surface;
 use surface::questions::{ordinate_of, place_of};
 
-// The places of the stations.
+// The places of the stations, in an array as large as a grid keeps them.
 fn places_of<S: Surface>(surface: &S) -> [u32; STATIONS]
     ensures { (k : ℕ) → k < (S.Surface.shape surface.now).stations → slice_index result k ≡ (S.Surface.shape surface.now).place k }
 {
@@ -23,7 +23,7 @@ fn places_of<S: Surface>(surface: &S) -> [u32; STATIONS]
     places
 }
 
-// The ordinates of slice j at the stations; those after them are 0.
+// The ordinates of slice j at the stations, in an array as a grid keeps it; those after them are 0.
 fn row_of<S: Surface>(surface: &S, j: usize) -> [i32; STATIONS]
     requires { j < (S.Surface.shape surface.now).slices }
     ensures value { (k : ℕ) → k < (S.Surface.shape surface.now).stations → slice_index_or result k (pos 0) ≡ (S.Surface.shape surface.now).ordinate j k }

@@ -36,7 +36,7 @@ impl Lane<'_> {
             + rows[self.start + d][k]
     }
 
-    // W at the stations.
+    // W at the stations, in an array of a grid's size, since a figure takes no memory.
     fn values(self) -> [i32; STATIONS]
         ensures value { (k : ℕ) → k < self.entry.grid.now.stations.count → slice_index_or result k (pos 0) ≡ held_sum self.entry.grid.now.heights self.entry.start self.entry.slices k }
         ensures within { Values 400000 self.entry.grid.now.stations.count result }

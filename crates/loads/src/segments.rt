@@ -33,7 +33,7 @@ impl Stations {
         Some(Other { place, segment })
     }
 
-    // The other axles for each station.
+    // The other axles for each station, in an array as a grid keeps it.
     pub(crate) fn others(&self) -> [Others; STATIONS]
         ensures { (i : ℕ) (o : TheOthers) → i < self.now.count → OthersAre self.now.count self.now.places i (slice_index_or result i o) }
     {

@@ -119,7 +119,7 @@ impl Factors {
         }
     }
 
-    // What T of an owner's lane counts for. Beside the next: each is a table of the standard with factors of its own.
+    // What T of an owner's lane counts for. No one function with the next: it would take two tables as closures to write one product.
     pub fn tandem_weight(self, kind: LoadKind, owner: Owner) -> u64
         ensures { result ≡ tandem_weight kind self owner }
     {

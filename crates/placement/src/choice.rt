@@ -87,7 +87,7 @@ fn choose<W: Worth + Copy, P: Parts<W>>(
     best
 }
 
-// Fills the entries, writes the owners of the chosen placement of `lanes`, and answers its worth.
+// Fills the entries, writes the owners of the chosen placement of `lanes`, by number, and answers its worth.
 pub fn place<W: Worth + Copy, P: Parts<W>>(
     parts: &P,
     bests: &mut [Option<W>],

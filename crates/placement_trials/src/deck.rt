@@ -16,7 +16,8 @@ const TANDEM: Tandem = Tandem {
     place: Some(8_800),
 };
 
-// What the winner on a carriageway so many decimetres wide is worth, with the owners of its slices.
+// What the winner on a carriageway so many decimetres wide is worth, with the owners of its slices, by number.
+// The entries are lent: an array of any worth is not known to fit.
 pub(crate) fn placed_on_deck<W: Tried + Copy>(
     width: u32,
     bests: &mut [Option<W>],

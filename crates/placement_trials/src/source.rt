@@ -9,6 +9,7 @@ use model::owners::Owner;
 use placement::parts::Parts;
 use worths::Worth;
 
+// As a factor is found by owner in `model`: the rows are numbers of their own.
 impl Row {
     fn written(self, owner: Owner) -> u64
         ensures { result ≡ written self owner }

@@ -20,6 +20,7 @@ impl<'a> Trial<'a> {
         Trial { title, rows, lanes }
     }
 
+    // Owners are numbers, and those past the rows stay as they are.
     // What the winner over at most 20 rows is worth, with the owners of its slices; nothing where the lanes do not fit or a list is too short.
     pub(crate) fn winner<W: Worth + Copy>(
         &self,

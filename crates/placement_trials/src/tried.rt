@@ -7,7 +7,7 @@ use loaded::rated::{place_drawing, place_figure};
 use std::io;
 use worths::{Kerbed, Worth};
 
-// A worth that the trials place lanes by.
+// A worth that the trials place lanes by: two instances, of two public functions. Owners and lists are as those functions take them.
 pub(crate) trait Tried: Worth {
     // What is placed by it.
     const NAME: &'static str;

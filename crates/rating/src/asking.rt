@@ -51,7 +51,7 @@ fn reach(kerbs: Carriageway, lengths: Lengths) -> Lengths
     }
 }
 
-// A copy of the items, with `blank` after them.
+// A copy of the items, with `blank` after them: the library copies, and no form of it fills the rest.
 fn kept<T: Copy>(items: &[T], blank: T) -> [T; SLICES]
     requires { length items.now ≤ 300 }
     ensures { result ≡ items.now ++ replicate (300 - length items.now) blank }
@@ -61,7 +61,7 @@ fn kept<T: Copy>(items: &[T], blank: T) -> [T; SLICES]
     all
 }
 
-// The answer to a figure or a drawing over these lists.
+// The answer to a figure or a drawing over these lists: four parameters, as the rules lend them.
 fn answer_over<S: Surface, W: Reported + Copy>(
     job: &Job<S>,
     kind: LoadKind,

@@ -92,7 +92,7 @@ impl<S: Surface> Job<S> {
         })
     }
 
-    // Whether this duty is the open one.
+    // Whether this duty is the open one. By both numbers: the duty itself must be spent, and this only looks at it.
     fn is_open(&self, number: u32, serial: u32) -> bool
         ensures { result ≡ is_open self.now.card number serial }
     {

@@ -1,5 +1,5 @@
 // The numbers of a record's fields, of any kind that a field may write.
-ghost use Rattle.std.specs.Prelude.{◌≡◌, ℕ, ◌≤◌, List, length, drop, min, IfOk, MatchResult};
+ghost use Rattle.std.specs.Prelude.{◌≡◌, ℕ, ◌≤◌, List, length, min, IfOk, MatchResult};
 ghost use Rattle.table.specs.Cells.{Cell};
 ghost use Rattle.table.specs.Lines.{Line, text_at};
 ghost use Rattle.records.specs.Numbers.{Taken, Missed};

@@ -21,13 +21,13 @@ fn rear_place(tandems: &[Tandem; 300], start: Option<u32>) -> Option<u32>
 }
 
 // What a line shows of a lane: its first slice and its tandem's rear place.
-#[derive(Clone, Copy)]
+#[derive(Clone, Copy, PartialEq, Eq, Debug)]
 pub struct ShownLane {
     pub start: Option<u32>,
     pub place: Option<u32>,
 }
 
-// Lane 1, 2 or 3 as the owners and tandems show it.
+// Lane 1, 2 or 3 as the owners and tandems show it. Any number is taken, as ever: a lane that no slice has shows nothing.
 pub fn shown_lane(owners: &[u8; 300], tandems: &[Tandem; 300], lane: u8) -> ShownLane
     ensures { (StartsAt owners.now lane result.start) × (result.place ≡ place_from tandems.now result.start) }
 {

@@ -7,7 +7,7 @@ use std::alloc::{AllocError, Global};
 // The number of an other lane among owners: numbers, as a rule of the project asks of that list.
 const OTHER: u8 = 4;
 
-// How many slices have this owner.
+// How many slices have this owner, by its number in that list.
 fn owned_slices(owners: &[u8; 300], owner: u8) -> usize
     ensures { result ≡ count_of owners.now 300 owner }
 {

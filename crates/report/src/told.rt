@@ -11,14 +11,14 @@ use card::fault::JobFault;
 use std::alloc::{AllocError, Global};
 use table::fault::Report;
 
-// The line of a refusal. As in `survey`, of a fault of its own layer: what both share is the report's line.
+// The line of a refusal. As in `survey`, a function of its own, so that a wrong line is refused at this code.
 fn refusal_line(heap: Global, fault: JobFault) -> Result<String, AllocError>
     ensures { IfOk result (λ s. string_bytes s ≡ refusal_text (job_told fault)) }
 {
     Report::from(fault).line(heap)
 }
 
-// The line of a rating; only a figure and a drawing have one.
+// The line of a rating; only a figure and a drawing have one. A match, since a call is data.
 fn rated_line(
     heap: Global,
     call: Call,

@@ -22,6 +22,7 @@ use table::fault::TextFault;
 // How many lengths a rating may be given.
 const LENGTHS: usize = 4;
 
+// Field by field: factors are named, and no conversion of an array can tell which is which.
 fn factors_of(numbers: [u32; 8]) -> Factors
     ensures { result ≡ factors_of numbers }
 {
@@ -47,6 +48,7 @@ fn factors_of(numbers: [u32; 8]) -> Factors
     }
 }
 
+// By match on a word, since each makes a call of its own shape.
 impl Setter {
     // The call whose numbers begin here, in a record of so many fields.
     fn read(self, here: Cursor<'_>, fields: usize) -> Result<Call, TextFault>

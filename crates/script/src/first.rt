@@ -9,7 +9,7 @@ use table::fault::TextFault;
 use table::field::Field;
 
 // A field, and where the rest of its record begins.
-#[derive(Clone, Copy)]
+#[derive(Clone, Copy, PartialEq, Eq, Debug)]
 pub struct First<'a> {
     pub field: Field<'a>,
     pub rest: Cursor<'a>,

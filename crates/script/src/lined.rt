@@ -1,5 +1,5 @@
 // The part of a script that says an edge surface.
-ghost use Rattle.std.specs.Prelude.{◌≡◌, ℕ, List, length, MatchResult};
+ghost use Rattle.std.specs.Prelude.{◌≡◌, ℕ, List, length, pos, MatchResult, slice_index_or};
 ghost use Rattle.table.specs.Cells.{Cell};
 ghost use Rattle.table.specs.Lines.{Line};
 ghost use Rattle.script.specs.Faults.{IfTold};
@@ -34,6 +34,19 @@ pub struct Lined {
     pub line: Vec<Station>,
 }
 
+fn edges_of(numbers: [i32; HEADER]) -> Edges
+    ensures slices { result.slices ≡ slice_index_or numbers 0 (pos 0) }
+    ensures left { result.left ≡ slice_index_or numbers 1 (pos 0) }
+    ensures right { result.right ≡ slice_index_or numbers 2 (pos 0) }
+{
+    let [slices, left, right] = numbers;
+    Edges {
+        slices,
+        left,
+        right,
+    }
+}
+
 // The header that the first record says, which has so many fields.
 fn read_edges(part: &[u8], fields: usize) -> Result<Edges, TextFault>
     ensures { (cs : List Cell) (ys : List ℕ) → Line cs part.now ys → length cs ≡ fields → MatchResult result (λ e. EdgeHeaded cs e.slices e.left e.right) (λ e. EdgeUnheaded cs e) }
@@ -44,12 +57,7 @@ fn read_edges(part: &[u8], fields: usize) -> Result<Edges, TextFault>
         return Err(start.fault(0));
     }
     let numbers = read_numbers::<i32, HEADER>(word.rest, 2, HEADER)?;
-    let [slices, left, right] = numbers.into_inner().unwrap();
-    Ok(Edges {
-        slices,
-        left,
-        right,
-    })
+    Ok(edges_of(numbers.into_inner().unwrap()))
 }
 
 // Reads the part as an edge surface's header and rows.

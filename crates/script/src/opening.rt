@@ -10,7 +10,7 @@ use model::lanes::Carriageway;
 use table::cursor::Cursor;
 use table::fault::TextFault;
 
-#[derive(Clone, Copy)]
+#[derive(Clone, Copy, PartialEq, Eq, Debug)]
 pub struct Opening {
     pub number: u32,
     pub kerbs: Carriageway,

@@ -18,6 +18,7 @@ pub struct Turns {
     pub opposite: bool,
 }
 
+// By match on a turn, since each is a field of its own.
 impl Turns {
     // Whether the turn may be named after these: each at most once, and in the order sides, ends, opposite.
     fn allows(self, turn: Turn) -> bool

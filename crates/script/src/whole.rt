@@ -20,7 +20,7 @@ pub struct Script<S> {
     pub tail: Tail,
 }
 
-// Reads a script whose surface is a run's table; where it is refused, the rows stand as before.
+// Reads a script whose surface is a run's table; where it is refused, the 64 rows lent stand as before.
 pub fn read_measured(
     heap: Global,
     script: Input<'_>,

@@ -12,7 +12,7 @@ use surface::ends::EndForEnd;
 use surface::opposite::Opposite;
 use surface::sides::SideForSide;
 
-// Three steps beside one another, since each leaves a surface of another type for the next.
+// Three steps beside one another, since each leaves a surface of another type for the next; a struct of what they pass on would be made anew in each.
 
 // With every ordinate negated, if the script says so.
 fn run_opposite<S: Surface + Drop>(heap: Global, surface: S, tail: &Tail) -> Ran

@@ -20,7 +20,7 @@ pub trait Turn {
     fn place<S: Surface>(below: &S, k: usize) -> Result<u32, SurfaceFault>
         ensures { Asked result (k < (S.Surface.shape below.now).stations) ((turned (S.Surface.shape below.now)).place k) };
 
-    // The ordinate of slice j at station k of the turned surface.
+    // The ordinate of slice j at station k of the turned surface: two numbers, as the question of every surface takes them.
     fn ordinate<S: Surface>(below: &S, j: usize, k: usize) -> Result<i32, SurfaceFault>
         ensures { Asked result ((j < (S.Surface.shape below.now).slices) × (k < (S.Surface.shape below.now).stations)) ((turned (S.Surface.shape below.now)).ordinate j k) };
 }

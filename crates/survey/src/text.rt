@@ -25,7 +25,7 @@ fn extent_lines(heap: Global, extent: Extent) -> Result<String, AllocError>
     )
 }
 
-// The line of a refusal. As in `report`, of a fault of its own layer: what both share is the report's line.
+// The line of a refusal. As in `report`, a function of its own, so that a wrong line is refused at this code.
 fn refusal_line(heap: Global, fault: SurfaceFault) -> Result<String, AllocError>
     ensures { IfOk result (λ s. string_bytes s ≡ refusal_text (surface_told fault)) }
 {

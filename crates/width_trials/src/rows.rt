@@ -52,7 +52,7 @@ fn print_shown(rt: &HostRuntime, figure: u64, layout: &Layout) -> anyhow::Result
     Ok(())
 }
 
-// A row with what the job answers.
+// A row with what the job answers, over lists of the size that any carriageway asks for.
 pub(crate) fn print_row<S: Surface>(
     rt: &HostRuntime,
     trial: Trial,

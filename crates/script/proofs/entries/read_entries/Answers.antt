@@ -3,7 +3,7 @@ use Rattle.std.proofs.Common.{◌≡◌, ◌<◌, length, sym, refl, ap, arith, 
 use Rattle.std.proofs.lemmas.Result.{err_from_is_err_and}
 use Rattle.table.specs.Lines.{LineRead}
 use Rattle.table.proofs.SecondPass.{read_advances}
-use Rattle.script.proofs.Reading.{reading_none, reading_more, reading_broken, reading_said_none, reading_done}
+use Rattle.script.proofs.Reading.{reading_none, reading_more, reading_broken, reading_said_none}
 use Rattle.script.proofs.entries.read_entries.Given.{Over}
 use Rattle.script.proofs.entries.read_entries.Goals as goal
 use Rattle.script.proofs.entries.read_entries.Goals.{In-loop-here, In_ok-line}
@@ -46,8 +46,3 @@ loop-here-preserved g c =
     let said = rw c.loop-here.invariant.0 at c.in_ok-read.ensures in
     let more = reading_more g.E.Entry.said g.E.Entry.unsaid c.args.from.cursor.input.now c.args.from.cursor.at c.args.from.cursor.record _ c.loop-here.here.cursor.at c.loop-here.here.cursor.record c.loop-here.invariant.1 c.in_ok-read.field-0 (low g (goal.at.loop-here-preserved g c).In-loop-here) l (said l.cells _ l.line (sym l.count)) in
     rw (c.after-here.ensures, c.in_ok-push.ensures.items) (c.loop-here.invariant.0, more)
-
-pub returns : goal.returns
-returns g c =
-    let same : length c.loop-here.here.cursor.input.now ≡ length c.args.from.cursor.input.now = ap length c.loop-here.invariant.0 in
-    reading_done g.E.Entry.said g.E.Entry.unsaid c.args.from.cursor.input.now c.args.from.cursor.at c.args.from.cursor.record _ c.loop-here.here.cursor.at c.loop-here.here.cursor.record c.loop-here.invariant.1 (search rules)

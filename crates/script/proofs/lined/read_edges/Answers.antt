@@ -1,5 +1,4 @@
-use Rattle.std.proofs.Common.{◌≡◌, ◌∙◌, length, get_or, pos, subst, arith, rules, w32, SFits, to_z, of_z}
-use borrow.Author.Differences.{ints}
+use Rattle.std.proofs.Common.{◌≡◌, ◌∙◌, length, pos, subst, arith}
 use Rattle.std.proofs.lemmas.Result.{err_from_is_err_and}
 use Rattle.table.specs.Numbers.{Writes}
 use Rattle.records.specs.Numbers.{Written}
@@ -35,13 +34,4 @@ returns c = λ cs ys l h.
     let t = taken_whole (c.in_ok-numbers.ensures.numbers s.others ys (s.line (omega arith)) n) (omega arith) in
     let is = rw c.unwrap.ensures at c.into_inner.ensures.ok in
     let w : Written Writes s.others c.unwrap.result = rw is t in
-    let a = get_or c.unwrap.result 0 (pos 0) in
-    let b = get_or c.unwrap.result 1 (pos 0) in
-    let d = get_or c.unwrap.result 2 (pos 0) in
-    let fits_a : SFits w32 a = search rules in
-    let fits_b : SFits w32 b = search rules in
-    let fits_d : SFits w32 d = search rules in
-    let slices : to_z w32 (of_z w32 a) ≡ a = omega (arith, ints) in
-    let left : to_z w32 (of_z w32 b) ≡ b = omega (arith, ints) in
-    let right : to_z w32 (of_z w32 d) ≡ d = omega (arith, ints) in
-    rw (slices, left, right) (edge_headed s _ _ _ (subst (Written Writes s.others) (three (pos 0) c.unwrap.result (written_length Writes s.others c.unwrap.result w ∙ n)) w))
+    rw (c.edges_of.ensures.slices, c.edges_of.ensures.left, c.edges_of.ensures.right) (edge_headed s _ _ _ (subst (Written Writes s.others) (three (pos 0) c.unwrap.result (written_length Writes s.others c.unwrap.result w ∙ n)) w))

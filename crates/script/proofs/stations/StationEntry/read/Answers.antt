@@ -1,5 +1,4 @@
-use Rattle.std.proofs.Common.{◌≡◌, get_or, pos, sym, ◌∙◌, subst, arith, rules, w32, SFits, to_z, of_z}
-use borrow.Author.Differences.{ints}
+use Rattle.std.proofs.Common.{pos, sym, ◌∙◌, subst, arith}
 use Rattle.std.proofs.lemmas.Result.{err_from_is_err_and}
 use Rattle.table.specs.Numbers.{Writes}
 use Rattle.records.specs.Numbers.{Written}
@@ -23,10 +22,4 @@ returns c = λ cs ys l h.
     let t = taken_whole (c.in_ok-numbers.ensures.numbers cs ys l n) (omega arith) in
     let is = rw c.unwrap.ensures at c.into_inner.ensures.ok in
     let w : Written Writes cs c.unwrap.result = rw is t in
-    let z = get_or c.unwrap.result 0 (pos 0) in
-    let y = get_or c.unwrap.result 1 (pos 0) in
-    let fits_z : SFits w32 z = search rules in
-    let fits_y : SFits w32 y = search rules in
-    let place : to_z w32 (of_z w32 z) ≡ z = omega (arith, ints) in
-    let ordinate : to_z w32 (of_z w32 y) ≡ y = omega (arith, ints) in
-    rw (place, ordinate) (subst (Written Writes cs) (two (pos 0) c.unwrap.result (written_length Writes cs c.unwrap.result w ∙ n)) w)
+    rw (c.station_of.ensures.place, c.station_of.ensures.ordinate) (subst (Written Writes cs) (two (pos 0) c.unwrap.result (written_length Writes cs c.unwrap.result w ∙ n)) w)
