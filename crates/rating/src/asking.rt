@@ -1,6 +1,7 @@
 // A figure or a drawing by the lengths of the lists to lend, and what is kept of it.
 ghost use Rattle.std.specs.Prelude.{◌≡◌, ◌-◌, ◌≤◌, true, ◌++◌, length, replicate};
 ghost use Rattle.card.specs.Bounds.{kerbs_fit};
+ghost use Rattle.model.specs.Tandems.{no_tandem};
 ghost use Rattle.figures.specs.Lent.{lengths as lengths_of};
 ghost use Rattle.rating.specs.Asked.{Asked};
 ghost use Rattle.rating.specs.Reach.{reached};
@@ -29,7 +30,11 @@ pub struct Desk {
 
 impl Desk {
     // A desk with nothing on it.
-    pub fn clear() -> Desk {
+    pub fn clear() -> Desk
+        ensures areas { result.areas ≡ replicate 300 0 }
+        ensures tandems { result.tandems ≡ replicate 300 no_tandem }
+        ensures owners { result.owners ≡ replicate 300 0 }
+    {
         Desk {
             areas: [0; SLICES],
             tandems: [Tandem::none(); SLICES],
