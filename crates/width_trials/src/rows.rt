@@ -1,5 +1,6 @@
 // The row of one call.
-use card::answers::Layout;
+use card::answers::{Layout, Rating};
+use card::fault::JobFault;
 use model::lanes::Carriageway;
 use model::tandems::Tandem;
 use model::weights::LoadKind;
@@ -52,6 +53,31 @@ fn print_shown(rt: &HostRuntime, figure: u64, layout: &Layout) -> anyhow::Result
     Ok(())
 }
 
+// The job's figure, over entries of its own, as many as any carriageway asks for.
+fn ask_figure<S: Surface>(
+    job: &Job<S>,
+    kind: LoadKind,
+    areas: &mut [u64],
+    tandems: &mut [Tandem],
+    owners: &mut [u8],
+) -> Result<Rating, JobFault> {
+    let mut bests = [None; 7224];
+    job.figure(kind, areas, tandems, &mut bests, owners)
+}
+
+// The job's drawing, over entries of its own: a function for each call, since one that held both lists would take the
+// memory of both.
+fn ask_drawing<S: Surface>(
+    job: &Job<S>,
+    kind: LoadKind,
+    areas: &mut [u64],
+    tandems: &mut [Tandem],
+    owners: &mut [u8],
+) -> Result<Rating, JobFault> {
+    let mut bests = [None; 7224];
+    job.drawing(kind, areas, tandems, &mut bests, owners)
+}
+
 // A row with what the job answers, over lists of the size that any carriageway asks for.
 pub(crate) fn print_row<S: Surface>(
     rt: &HostRuntime,
@@ -62,13 +88,11 @@ pub(crate) fn print_row<S: Surface>(
 ) -> anyhow::Result<()> {
     let mut areas = [0; 300];
     let mut tandems = [Tandem::none(); 300];
-    let mut figures = [None; 7224];
-    let mut drawings = [None; 7224];
     let mut owners = [0; 300];
     print_asked(rt, trial, asked, kind)?;
     let answer = match asked {
-        Asked::Figure => job.figure(kind, &mut areas, &mut tandems, &mut figures, &mut owners),
-        Asked::Drawing => job.drawing(kind, &mut areas, &mut tandems, &mut drawings, &mut owners),
+        Asked::Figure => ask_figure(job, kind, &mut areas, &mut tandems, &mut owners),
+        Asked::Drawing => ask_drawing(job, kind, &mut areas, &mut tandems, &mut owners),
     };
     match answer {
         Ok(rating) => print_shown(rt, rating.figure, &Layout { owners, tandems }),
