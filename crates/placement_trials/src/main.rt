@@ -161,15 +161,24 @@ fn try_deck<W: Tried + Copy>(
     )
 }
 
+// Each worth over entries of its own, in a function of its own: one that held both lists would take the memory of both.
+fn try_figure(rt: &HostRuntime, width: u32) -> io::Result<()> {
+    let mut figures: [Option<u64>; 7224] = [None; 7224];
+    try_deck(rt, width, &mut figures)
+}
+
+fn try_drawing(rt: &HostRuntime, width: u32) -> io::Result<()> {
+    let mut drawings: [Option<Kerbed>; 7224] = [None; 7224];
+    try_deck(rt, width, &mut drawings)
+}
+
 fn main(rt: HostRuntime) -> io::Result<()> {
     equal_worths(&rt)?;
     remaining_slices(&rt)?;
     five_lanes(&rt)?;
-    let mut figures: [Option<u64>; 7224] = [None; 7224];
-    let mut drawings: [Option<Kerbed>; 7224] = [None; 7224];
     for width in [30, 53, 54, 59, 60, 89, 90, 120, 150] {
-        try_deck(&rt, width, &mut figures)?;
-        try_deck(&rt, width, &mut drawings)?;
+        try_figure(&rt, width)?;
+        try_drawing(&rt, width)?;
     }
     Ok(())
 }
