@@ -21,7 +21,7 @@ pub record Under (n : ℕ) (zs : List ℕ) (k z : ℕ) : Type 0 where
   pub above : slice_index zs k ≤ z
   pub below : z ≤ slice_index zs (k + 1)
 
--- where the other axle stood at an earlier station, its segment does not lie past the place for this axle at station i
+-- the other axle at an earlier station, if it stood: in its segment, and not past where it stands for this axle at station i
 pub record Before (n : ℕ) (zs : List ℕ) (a : Axle) (i : ℕ) (o : Option Other) : Type 0 where
   pub held : (p : Other) → o ≡ Some p → Under n zs p.segment p.place
   pub behind : (p : Other) → o ≡ Some p → p.place ≤ other_place a (slice_index zs i)
