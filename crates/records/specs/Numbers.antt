@@ -1,5 +1,5 @@
 -- The numbers that the fields of a record write, of a kind V where `W bs v` says that the bytes bs write v.
-use Rattle.std.specs.Prelude.{◌≡◌, ℕ, ◌+◌, ◌<◌, List, [], ◌∷◌, length, take, slice_index_or}
+use Rattle.std.specs.Prelude.{◌≡◌, ℕ, ◌+◌, ◌<◌, List, [], ◌∷◌, ◌++◌, length, take, drop, slice_index_or}
 use Rattle.table.specs.Cells.{Cell, plain, content}
 use Rattle.table.specs.declared.fault.TextFault.{TextFault}
 use Rattle.table.specs.declared.fault.TextFault.TheVariants.{Malformed}
@@ -23,6 +23,12 @@ pub record Taken {V : Type 0} (W : List ℕ → V → Type 0) (room : ℕ) (cs :
   pub numbers : List V
   pub written : Written W cs numbers
   pub held : into ≡ take room numbers
+
+-- the fields write numbers, the first of which stand in a list that was `old`, as many as it has places; what stood past them stays
+pub record FilledBy {V : Type 0} (W : List ℕ → V → Type 0) (cs : List Cell) (old into : List V) : Type 0 where
+  pub numbers : List V
+  pub written : Written W cs numbers
+  pub filled : into ≡ take (length old) numbers ++ drop (length numbers) old
 
 -- the first field that writes no number is told by its place, where the first of the fields has the place f of the record r
 pub record Missed {V : Type 0} (W : List ℕ → V → Type 0) (cs : List Cell) (r f : ℕ) (e : TextFault) : Type 0 where

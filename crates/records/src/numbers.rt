@@ -1,8 +1,8 @@
 // The numbers of a record's fields, of any kind that a field may write.
-ghost use Rattle.std.specs.Prelude.{◌≡◌, ℕ, ◌≤◌, List, length, min, IfOk, MatchResult};
+ghost use Rattle.std.specs.Prelude.{◌≡◌, ℕ, ◌≤◌, List, length, min, slice_set, IfOk, MatchResult};
 ghost use Rattle.table.specs.Cells.{Cell};
 ghost use Rattle.table.specs.Lines.{Line, text_at};
-ghost use Rattle.records.specs.Numbers.{Taken, Missed};
+ghost use Rattle.records.specs.Numbers.{Taken, FilledBy, Missed};
 
 use arrayvec::ArrayVec;
 use table::cursor::Cursor;
@@ -11,7 +11,7 @@ use table::number::Number;
 
 // Reads the `count` fields from here on, the first of which has the place `first`, and holds as many of their numbers as there is room for.
 // By number, since a field begins where the one before was seen to end.
-pub fn read_numbers<N: Number, const ROOM: usize>(
+pub fn read_numbers<N: Number + Default, const ROOM: usize>(
     here: Cursor<'_>,
     first: u32,
     count: usize,
@@ -31,4 +31,35 @@ pub fn read_numbers<N: Number, const ROOM: usize>(
         at = read.next.saturating_add(1);
     }
     Ok(numbers)
+}
+
+// Puts a number into place i, if there is such a place.
+fn hold<N: Number>(into: &mut [N], i: usize, value: N)
+    ensures { into.new ≡ slice_set into.old i value }
+{
+    if i < into.len() {
+        into[i] = value;
+    }
+}
+
+// Reads those fields, and puts their numbers into the places that are lent, as many as there are.
+// A loop of its own, since it serves kinds of number that have no default, and `read_numbers` hands out a list, which begins as defaults.
+pub fn fill_numbers<N: Number>(
+    here: Cursor<'_>,
+    first: u32,
+    count: usize,
+    into: &mut [N],
+) -> Result<(), TextFault>
+    requires { (count ≤ 100000) × (first ≤ 3) }
+    ensures numbers { (cs : List Cell) (ys : List ℕ) → Line cs (text_at here.entry) ys → length cs ≡ count → MatchResult result (λ _. FilledBy N.Number.writes cs into.old into.new) (λ e. Missed N.Number.writes cs here.entry.«record» first e) }
+    ensures kept { length into.new ≡ length into.old }
+{
+    let mut at = here.at;
+    for i in 0..count {
+        let read = here.moved_to(at).field(first + i as u32)?;
+        let value = read.field.value()?;
+        hold(into, i, value);
+        at = read.next.saturating_add(1);
+    }
+    Ok(())
 }

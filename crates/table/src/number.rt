@@ -13,7 +13,7 @@ const MOST_DIGITS: usize = 7;
 const MOST_NATURAL_DIGITS: usize = 10;
 
 // A kind of whole number that a field may write.
-pub trait Number: Copy + Default {
+pub trait Number: Copy {
     // Which bytes write which number.
     ghost writes: { List ℕ → Self → Type 0 };
 
