@@ -97,6 +97,17 @@ module _ {V : Type 0} (W : List ℕ → V → Type 0) where
         let size = ap length g.held in
         g.held ∙ sym (take-append-le room g.numbers (v ∷ []) (omega arith))
 
+    -- the number is the next that is held, if there is room for it
+    pub held_next : (v : V) → take room (into ++ (v ∷ [])) ≡ take room (g.numbers ++ (v ∷ []))
+    held_next v =
+        let short = length-take room g.numbers in
+        let size = ap length g.held in
+        let long = length_push into v in
+        ⊎_elim
+        (λ free. take_all room (into ++ (v ∷ [])) (omega arith) ∙ held_more v free)
+        (λ full. take-append-le room into (v ∷ []) full ∙ take_all room into (omega arith) ∙ held_past v (omega arith))
+        (cases_lt (length into) room)
+
   pub filling_none : (cs : List Cell) (ys input : List ℕ) (p : ℕ) (old : List V) → Line cs (drop p input) ys → Filling W cs ys input 0 p old old
   filling_none cs ys input p old l = record { held = []; progress = progress_none (length old) cs ys input p l; filled = refl }
 

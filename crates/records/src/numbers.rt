@@ -1,5 +1,5 @@
 // The numbers of a record's fields, of any kind that a field may write.
-ghost use Rattle.std.specs.Prelude.{◌≡◌, ℕ, ◌≤◌, List, length, min, slice_set, IfOk, MatchResult};
+ghost use Rattle.std.specs.Prelude.{◌≡◌, ℕ, ◌≤◌, List, [], ◌∷◌, ◌++◌, length, min, take, slice_set, IfOk, MatchResult};
 ghost use Rattle.table.specs.Cells.{Cell};
 ghost use Rattle.table.specs.Lines.{Line, text_at};
 ghost use Rattle.records.specs.Numbers.{Taken, FilledBy, Missed};
@@ -25,25 +25,14 @@ pub fn read_numbers<N: Number + Default, const ROOM: usize>(
     for i in 0..count {
         let read = here.moved_to(at).field(first + i as u32)?;
         let value = read.field.value()?;
-        if !numbers.is_full() {
-            numbers.push(value);
-        }
+        hold_next(&mut numbers, value);
         at = read.next.saturating_add(1);
     }
     Ok(numbers)
 }
 
-// Puts a number into place i, if there is such a place.
-fn hold<N: Number>(into: &mut [N], i: usize, value: N)
-    ensures { into.new ≡ slice_set into.old i value }
-{
-    if i < into.len() {
-        into[i] = value;
-    }
-}
-
-// Reads those fields, and puts their numbers into the places that are lent, as many as there are.
-// A loop of its own, since it serves kinds of number that have no default, and `read_numbers` hands out a list, which begins as defaults.
+// Reads the same fields, and puts their numbers into the places that are lent, as many as there are.
+// No one loop with `read_numbers`, since a list that is handed out begins as defaults, and a kind of number need have none.
 pub fn fill_numbers<N: Number>(
     here: Cursor<'_>,
     first: u32,
@@ -62,4 +51,22 @@ pub fn fill_numbers<N: Number>(
         at = read.next.saturating_add(1);
     }
     Ok(())
+}
+
+// Appends a number, if there is room for it.
+fn hold_next<N: Number + Default, const ROOM: usize>(numbers: &mut ArrayVec<N, ROOM>, value: N)
+    ensures { numbers.new.items ≡ take ROOM (numbers.old.items ++ value ∷ []) }
+{
+    if !numbers.is_full() {
+        numbers.push(value);
+    }
+}
+
+// Puts a number into place i, if there is such a place.
+fn hold<N: Number>(into: &mut [N], i: usize, value: N)
+    ensures { into.new ≡ slice_set into.old i value }
+{
+    if i < into.len() {
+        into[i] = value;
+    }
 }
