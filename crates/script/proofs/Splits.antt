@@ -1,5 +1,5 @@
 -- The first field of a record that was read before, and the others.
-use Rattle.std.proofs.Common.{◌≡◌, ℕ, ◌+◌, ◌<◌, Bool, true, false, ◌⊎◌, List, [], ◌∷◌, length, drop, Ok, Err, Result, Decides, MatchResult, sym, ap, subst, inl, inr, ⊎_elim, arith}
+use Rattle.std.proofs.Common.{◌≡◌, ℕ, ◌+◌, ◌<◌, Bool, ◌⊎◌, List, [], ◌∷◌, length, drop, Ok, Err, Result, Decides, MatchResult, sym, ap, subst}
 use Rattle.table.specs.Cells.{Cell, cell_of, content}
 use Rattle.table.specs.Lines.{Line, FieldRead}
 use Rattle.table.specs.declared.field.FieldEnd.{FieldEnd}
@@ -22,15 +22,9 @@ split_first (t ∷ us) {input} {ys} l k step =
 pub split_says : {cs : List Cell} {c : Cell} {rest ys w : List ℕ} {r : Bool} → Split cs c rest ys → Decides r (content c ≡ w) → Decides r (Says cs w)
 split_says {cs} {c} {rest} {ys} {w} {r} s d = subst (λ (l : List Cell). Decides r (Says l w)) (sym s.splits) d
 
--- it says one of two words
-pub says_first : (cs : List Cell) (v w : List ℕ) {p : Bool} → Decides p (Says cs v) → p ≡ true → Decides p (Says cs v ⊎ Says cs w)
-says_first cs v w d e = (λ h. inl (d.0 h), λ _. e)
-
-pub says_second : (cs : List Cell) (v w : List ℕ) {p q : Bool} → Decides p (Says cs v) → p ≡ false → Decides q (Says cs w) → Decides q (Says cs v ⊎ Says cs w)
-says_second cs v w d e f = (λ h. inr (f.0 h), ⊎_elim (λ a. absurd (never (d.1 a) e)) (λ b. f.1 b))
-  where
-    never : {b : Bool} → b ≡ true → b ≡ false → ⊥
-    never h k = let z : ◌≡◌ {A = ℕ} 0 1 = cc in omega arith
+-- and so is one of two
+pub split_leads : {cs : List Cell} {c : Cell} {rest ys v w : List ℕ} {r : Bool} → Split cs c rest ys → Decides r (content c ≡ v ⊎ content c ≡ w) → Decides r (Says cs v ⊎ Says cs w)
+split_leads {cs} {c} {rest} {ys} {v} {w} {r} s d = subst (λ (l : List Cell). Decides r (Says l v ⊎ Says l w)) (sym s.splits) d
 
 -- what is said of an answer in two ways
 pub both_ways : {X E Q : Type 0} {A B : X → Type 0} {C D : E → Type 0} (r : Result X E) → MatchResult r A C → MatchResult r B D → ((x : X) → A x → B x → Q) → ((e : E) → C e → D e → Q) → Q

@@ -1,13 +1,15 @@
 // Where the surface's part of a script ends.
-ghost use Rattle.std.specs.Prelude.{◌≡◌, ℕ, ◌≤◌, List, Decides};
-ghost use Rattle.table.specs.Cells.{Cell};
+ghost use Rattle.std.specs.Prelude.{◌≡◌, ℕ, ◌≤◌, ◌⊎◌, List, Decides};
+ghost use Rattle.table.specs.Cells.{Cell, cell_of, content};
 ghost use Rattle.table.specs.Lines.{Line, text_at};
 ghost use Rattle.script.specs.Lines.{Says};
 ghost use Rattle.script.specs.Parts.{BeginsEdge, LeadsOn, EndsAt};
+ghost use Rattle.script.specs.Words.{turned_word, open_word};
 
 use crate::first::read_first;
 use crate::place::Place;
 use table::cursor::Cursor;
+use table::field::Field;
 use table::input::Input;
 
 // Whether the record here begins with this word.
@@ -25,11 +27,18 @@ pub fn says_edge(script: Input<'_>) -> bool
     start.line().is_ok() && begins_with(start.cursor, b"edge")
 }
 
+// Whether the field is `turned` or `open`.
+fn ends_surface(field: Field<'_>) -> bool
+    ensures { Decides result ((content (cell_of field.entry.text) ≡ turned_word) ⊎ (content (cell_of field.entry.text) ≡ open_word)) }
+{
+    field.is_word(b"turned") || field.is_word(b"open")
+}
+
 // Whether the record here begins with `turned` or `open`, with which the surface is over.
 fn leads_on(here: Cursor<'_>) -> bool
     ensures { (cs : List Cell) (ys : List ℕ) → Line cs (text_at here.entry) ys → Decides result (LeadsOn cs) }
 {
-    begins_with(here, b"turned") || begins_with(here, b"open")
+    read_first(here, 1).is_ok_and(|first| ends_surface(first.field))
 }
 
 // Where the surface's part ends and the rest begins: the part is the first record, and those after it before the first that begins with `turned` or `open`.
