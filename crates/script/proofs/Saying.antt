@@ -17,6 +17,7 @@ use Rattle.script.specs.Edges.{EdgeHeaded, EdgeUnheaded}
 use Rattle.script.specs.Edges as edges
 use Rattle.script.specs.Lines.{Split}
 use Rattle.script.specs.Rest.{Naturals, NotNumbers}
+use Rattle.script.specs.Rest as numbers
 use Rattle.model.specs.Weights.{kind_word}
 use Rattle.script.specs.Words.{open_word, verb_word, setter_count}
 use Rattle.script.specs.declared.words.Rater.{Rater}
@@ -27,6 +28,12 @@ use Rattle.script.specs.declared.words.Verb.TheVariants.{Sets, Rates}
 -- as many numbers as the call takes make it
 pub set_by : (v : Setter) (ds : List Cell) (ns : List ℕ) → length ds ≡ setter_count v → Naturals ds ns → (k : Call) → k ≡ setter_call v ns → SetBy v ds k
 set_by v ds ns few w k is = record { numbers = ns; written = w; count = written_length Counts ds ns w ∙ few; call = is }
+
+-- as many fields as there should be are numbers, or one of them is not
+pub counted_numbers : (rec n : ℕ) (ds : List Cell) → length ds ≡ n → (r : Result (List ℕ) TextFault) → MatchResult r (Naturals ds) (Missed Counts ds rec 2)
+    → MatchResult r (λ ns. (length ds ≡ n) × Naturals ds ns) (NotNumbers rec n ds)
+counted_numbers rec n ds is (Ok ns) w = (is, w)
+counted_numbers rec n ds is (Err e) m = numbers.number e is m
 
 module _ {cs : List Cell} {c : Cell} {rest ys : List ℕ} (s : Split cs c rest ys) where
   pub others_long : {n : ℕ} → length cs ≡ n → length s.others + 1 ≡ n

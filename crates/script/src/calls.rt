@@ -1,16 +1,17 @@
 // The calls that records say.
-ghost use Rattle.std.specs.Prelude.{◌≡◌, ℕ, ◌+◌, ◌<◌, List, length, MatchResult};
+ghost use Rattle.std.specs.Prelude.{◌≡◌, ℕ, ◌+◌, ◌<◌, List, length, MatchResult, slice_index};
 ghost use Rattle.table.specs.Cells.{Cell};
 ghost use Rattle.table.specs.Lines.{Line, text_at};
 ghost use Rattle.table.specs.Numbers.{Counts};
 ghost use Rattle.records.specs.Numbers.{Missed};
-ghost use Rattle.script.specs.Calls.{Said, Unsaid, SetBy, LentBy, RatesBy, NotRated, factors_of, rater_call};
+ghost use Rattle.script.specs.Calls.{Said, Unsaid, SetBy, LentBy, RatesBy, NotRated, factors_of, rater_call, setter_call};
 ghost use Rattle.script.specs.Rest.{NotNumbers};
 ghost use Rattle.script.specs.Words.{setter_count};
+ghost use Rattle.script.specs.declared.words.Setter.TheVariants.{Reduce};
 
 use crate::entries::Entry;
 use crate::first::read_first;
-use crate::rest::read_rest;
+use crate::rest::read_naturals;
 use crate::words::{Rater, Setter, Verb, kind_of, verb_of};
 use card::calls::{AMPLE, Call, Lengths};
 use model::lanes::Carriageway;
@@ -48,25 +49,40 @@ fn factors_of(numbers: [u32; 8]) -> Factors
     }
 }
 
+// The carriageway that two numbers say. Like the next, a function of its own, so that a wrong one is refused at this code.
+fn kerbs_of(numbers: [u32; 2]) -> Carriageway
+    ensures { result ≡ record { first = slice_index numbers 0; width = slice_index numbers 1 } }
+{
+    let [first, width] = numbers;
+    Carriageway { first, width }
+}
+
+// The reduction that eight numbers say.
+fn reduced_by(numbers: [u32; 8]) -> Call
+    ensures { result ≡ setter_call Reduce numbers }
+{
+    Call::Reduce(factors_of(numbers))
+}
+
 // By match on a word, since each makes a call of its own shape.
 impl Setter {
     // The call whose numbers begin here, in a record of so many fields.
     fn read(self, here: Cursor<'_>, fields: usize) -> Result<Call, TextFault>
         ensures { (ds : List Cell) (ys : List ℕ) → (0 < length ds → Line ds (text_at here.entry) ys) → length ds + 1 ≡ fields → MatchResult result (SetBy self ds) (NotNumbers here.entry.«record» (setter_count self) ds) }
     {
+        if fields != self.count() + 1 {
+            return Err(here.fault(0));
+        }
         match self {
-            Setter::Kerbs => {
-                let [first, width] = read_rest::<2>(here, fields)?;
-                Ok(Call::Kerbs(Carriageway { first, width }))
-            },
-            Setter::Factors => Ok(Call::Factors(factors_of(read_rest(here, fields)?))),
-            Setter::Reduce => Ok(Call::Reduce(factors_of(read_rest(here, fields)?))),
+            Setter::Kerbs => Ok(Call::Kerbs(kerbs_of(read_naturals(here)?))),
+            Setter::Factors => Ok(Call::Factors(factors_of(read_naturals(here)?))),
+            Setter::Reduce => Ok(reduced_by(read_naturals(here)?)),
             Setter::Posted => {
-                let [number, serial] = read_rest::<2>(here, fields)?;
+                let [number, serial] = read_naturals::<2>(here)?;
                 Ok(Call::Posted { number, serial })
             },
             Setter::Withdraw => {
-                let [number, serial] = read_rest::<2>(here, fields)?;
+                let [number, serial] = read_naturals::<2>(here)?;
                 Ok(Call::Withdraw { number, serial })
             },
         }

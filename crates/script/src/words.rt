@@ -1,6 +1,7 @@
 // The words of a script, and what they name.
+ghost use Rattle.std.specs.Prelude.{◌≡◌};
 ghost use Rattle.table.specs.Cells.{cell_of, content};
-ghost use Rattle.script.specs.Words.{VerbOf, KindOf, TurnOf};
+ghost use Rattle.script.specs.Words.{VerbOf, KindOf, TurnOf, setter_count};
 
 use model::weights::LoadKind;
 use table::field::Field;
@@ -75,5 +76,20 @@ pub fn turn_of(field: Field<'_>) -> Option<Turn>
         b"ends" => Some(Turn::Ends),
         b"opposite" => Some(Turn::Opposite),
         _ => None,
+    }
+}
+
+impl Setter {
+    // How many numbers the call takes.
+    pub fn count(self) -> usize
+        ensures { result ≡ setter_count self }
+    {
+        match self {
+            Setter::Kerbs => 2,
+            Setter::Factors => 8,
+            Setter::Reduce => 8,
+            Setter::Posted => 2,
+            Setter::Withdraw => 2,
+        }
     }
 }
