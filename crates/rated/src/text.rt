@@ -6,8 +6,8 @@ use crate::rate::rate_table;
 use card::answers::Answer;
 use model::weights::LoadKind;
 use report::figures::figure_cells;
+use report::told::refusal_line;
 use std::alloc::{AllocError, Global};
-use table::fault::Report;
 
 // The line of an answer; only a figure has one.
 fn answer_line(heap: Global, kind: LoadKind, answer: &Answer) -> Result<String, AllocError>
@@ -42,6 +42,6 @@ pub fn sheet_text(heap: Global, input: &[u8]) -> Result<String, AllocError>
     let mut answers = [Answer::Done; 2];
     match rate_table(input, &mut answers) {
         Ok(()) => figure_lines(heap, &answers[0], &answers[1]),
-        Err(fault) => Report::from(fault).line(heap),
+        Err(fault) => refusal_line(heap, fault),
     }
 }

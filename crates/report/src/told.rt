@@ -11,8 +11,8 @@ use card::fault::JobFault;
 use std::alloc::{AllocError, Global};
 use table::fault::Report;
 
-// The line of a refusal. As in `survey`, a function of its own, so that a wrong line is refused at this code.
-fn refusal_line(heap: Global, fault: JobFault) -> Result<String, AllocError>
+// The line of a refusal, of a job or of what is read for one. As in `survey`, a function of its own, so that a wrong line is refused at this code.
+pub fn refusal_line(heap: Global, fault: JobFault) -> Result<String, AllocError>
     ensures { IfOk result (λ s. string_bytes s ≡ refusal_text (job_told fault)) }
 {
     Report::from(fault).line(heap)

@@ -1,9 +1,8 @@
-use Rattle.std.proofs.Common.{List, ap, ◌∙◌, subst, arith}
+use Rattle.std.proofs.Common.{List, subst, arith}
 use Rattle.card.specs.declared.answers.Answer.{Answer}
 use Rattle.rated.specs.Ratings.{RatedTable}
 use Rattle.rated.proofs.Pairs.{two}
 use Rattle.std.proofs.lemmas.Result.{IfOk-weaker}
-use Rattle.table.specs.Told.{refusal_text}
 use Rattle.rated.specs.Texts as texts
 use Rattle.rated.proofs.text.sheet_text.Goals as goal
 
@@ -15,4 +14,4 @@ returns-in-Ok c =
     c.figure_lines.ensures
 
 pub returns-in-Err : goal.returns-in-Err
-returns-in-Err c = IfOk-weaker c.line.result _ _ (λ s e. texts.refusal c.in-Err.fault c.in-Err.ensures (e ∙ ap refusal_text c.from.ensures)) c.line.ensures
+returns-in-Err c = IfOk-weaker c.refusal_line.result _ _ (λ s e. texts.refusal c.in-Err.fault c.in-Err.ensures e) c.refusal_line.ensures
