@@ -14,6 +14,13 @@ use model::tandems::Tandem;
 use model::weights::{Factors, LoadKind};
 use surface::Surface;
 
+// The figure of the winner, of any kind of worth. A function of its own, so that another figure is refused at this code.
+fn winner_figure<W: Reported>(won: W) -> u64
+    ensures { result ≡ W.Reported.effect won }
+{
+    won.figure()
+}
+
 // Fills the four lists by any kind of worth, and answers the winner's rounded effect.
 // A figure compares by the rounded effect alone, a drawing by the pair with the kerb count.
 // The lists are four parameters, as the rules lend them: a contract reads what is left in a struct of them by nested pairs.
@@ -34,5 +41,5 @@ pub fn rate<S: Surface, W: Reported + Copy>(
 {
     fill_loads(surface, kerbs, areas, tandems);
     let won = place_listed::<W>(kerbs, kind, factors, areas, tandems, bests, owners);
-    won.figure()
+    winner_figure(won)
 }

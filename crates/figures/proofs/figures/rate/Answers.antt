@@ -34,6 +34,6 @@ returns g c =
       tandems = tandems;
       bests = p.filled;
       bests_beyond = p.bests_beyond;
-      owners = figured g.W.Worth.kind g.W.Worth.made g.met.W.Worth.counts g.W.Reported.effect g.met.W.Reported.shown s areas tandems p.rated c.figure.ensures;
+      owners = figured g.W.Worth.kind g.W.Worth.made g.met.W.Worth.counts g.W.Reported.effect g.met.W.Reported.shown s areas tandems p.rated c.winner_figure.ensures;
       owners_beyond = p.owners_beyond;
     }
